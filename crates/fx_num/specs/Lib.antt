@@ -1,1 +1,3 @@
+pub mod Decimal
+pub mod Print
 pub mod Rounding

@@ -1,13 +1,18 @@
 //! Numbers and their texts.
 //!
 //! Every length, velocity, force and energy is a whole number of *units*, multiples of 2^-24. This
+//! crate has the roundings that all arithmetic goes through, the texts that numbers are read from
 //! and printed as, and the small types that every other crate names.
 #![tactic(auto)]
 
+mod decimal;
 mod memory;
+mod rounding;
 mod text;
 
+pub use decimal::NumError;
 pub use memory::NoMemory;
+pub use rounding::{nearest, nearest_shift, rdiv, rounding_is_odd, rounding_is_the_nearest, rsh};
 pub use text::Text;
 
 /// A vector in units, by axis: x, y, z.

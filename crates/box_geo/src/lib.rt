@@ -1,0 +1,16 @@
+//! The simulation box, and the types that every crate above names: atoms and what binds them, lists
+//! of ids, points and sites, terms of forces, styles, fault keys, and the limits of the project.
+#![tactic(auto)]
+
+mod atoms;
+mod fault;
+pub mod limits;
+mod sim_box;
+mod styles;
+mod term;
+
+pub use atoms::{Angle, Angles, Atom, Atoms, Bond, Bonds, Ids, Masses, Points, Site, Sites, System};
+pub use fault::{FaultKey, FaultKind, FaultPhase};
+pub use sim_box::{Axis, BoxRefusal, Extent, Sides, SimBox};
+pub use styles::{AtomStyle, LatticeStyle, Mix};
+pub use term::Term;

@@ -9,12 +9,14 @@ mod decimal;
 mod memory;
 mod rounding;
 mod seq;
+mod steps;
 mod text;
 
 pub use decimal::NumError;
 pub use memory::NoMemory;
 pub use rounding::{nearest, nearest_shift, rdiv, rounding_is_odd, rounding_is_the_nearest, rsh};
 pub use seq::Seq;
+pub use steps::Steps;
 pub use text::Text;
 
 /// A vector in units, by axis: x, y, z.

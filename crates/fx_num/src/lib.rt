@@ -7,6 +7,7 @@
 
 mod decimal;
 mod memory;
+mod numbers;
 mod rounding;
 mod seq;
 mod steps;
@@ -14,6 +15,7 @@ mod text;
 
 pub use decimal::NumError;
 pub use memory::NoMemory;
+pub use numbers::{Number, Numbers};
 pub use rounding::{nearest, nearest_shift, rdiv, rounding_is_odd, rounding_is_the_nearest, rsh};
 pub use seq::Seq;
 pub use steps::Steps;

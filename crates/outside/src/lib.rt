@@ -13,7 +13,7 @@ mod sure;
 
 pub use files::{File, Files};
 pub use memory::{Calls, Cut, Cuts, MemPress, MemShelf};
-pub use press::{Piece, Press, PutRefusal};
+pub use press::{Piece, Press, PutRefusal, SCREEN};
 pub use shelf::{FetchRefusal, MAX_FETCHED, Shelf};
 pub use sure::{SurePress, SureShelf};
 

@@ -1,0 +1,76 @@
+//! Where files are read: by name, each as a whole.
+ghost use Rattle.std.specs.Prelude.{◌≡◌, ◌<◌, ◌≤◌, Option, List, ℕ, length, IfOk, IfErr, IfSome, IfNone, IsErrOf};
+ghost use Rattle.outside.specs.Stock.{content, is_absence, Fetches, Rose, IsAbove};
+ghost use Rattle.outside.specs.declared.files.File.{File};
+ghost use Rattle.outside.specs.declared.shelf.FetchRefusal.TheVariants.{NoMemory as no_memory};
+
+use fx_num::{NoMemory, Text};
+use std::alloc::Global;
+use thiserror::Error;
+
+/// A fetched file has at most this many bytes: 2^28.
+pub const MAX_FETCHED: u64 = 1 << 28;
+
+/// Why a file was not fetched.
+#[derive(Clone, Copy, Debug, PartialEq, Eq, Error)]
+pub enum FetchRefusal {
+    /// No file has the name.
+    #[error("no such file")]
+    Missing,
+    /// The file has this many bytes, more than [`MAX_FETCHED`].
+    #[error("the file is too long: {0} bytes")]
+    TooLong(u64),
+    /// The device failed.
+    #[error("the file cannot be read")]
+    Faulted,
+    /// Out of memory.
+    #[error("out of memory")]
+    NoMemory,
+}
+
+impl FetchRefusal {
+    /// Whether the file is missing or too long.
+    pub fn is_absence(&self) -> bool
+        ensures { result ≡ is_absence self.now }
+    {
+        matches!(self, FetchRefusal::Missing | FetchRefusal::TooLong(_))
+    }
+}
+
+impl From<NoMemory> for FetchRefusal {
+    ghost from_gives = { λ _ refusal. refusal ≡ no_memory };
+
+    fn from(_error: NoMemory) -> FetchRefusal {
+        FetchRefusal::NoMemory
+    }
+}
+
+/// Files that can be read by their names.
+///
+/// `stock` is what stands on the shelf, or `None` where the shelf does not tell. `faults` counts
+/// its failures, and `absent` the files that were missing or too long; the counts never fall.
+pub trait Shelf {
+    ghost stock: { Self → Option (List File) };
+
+    ghost faults: { Self → ℕ };
+
+    ghost absent: { Self → ℕ };
+
+    /// The bytes of the file with this name.
+    ///
+    /// # Errors
+    ///
+    /// `Missing` where no file has the name and `TooLong` where the file has more than
+    /// [`MAX_FETCHED`] bytes: exactly there, where the stock is told, and else only where `absent`
+    /// rose. `Faulted` only where `faults` rose. `NoMemory`.
+    fn fetch(&mut self, alloc: Global, name: &Text) -> Result<Text, FetchRefusal>
+        ensures stays { stock self.new ≡ stock self.old }
+        ensures told { IfSome (stock self.old) (λ files. Fetches (content files name.now) result) }
+        ensures within_limit { IfOk result (λ bytes. length bytes ≤ MAX_FETCHED) }
+        ensures above_limit { IfErr result IsAbove }
+        ensures missing { IsErrOf result FetchRefusal.Missing → IfNone (stock self.old) (Rose (absent self.old) (absent self.new)) }
+        ensures too_long { (n : ℕ) → IsErrOf result (FetchRefusal.TooLong n) → IfNone (stock self.old) (Rose (absent self.old) (absent self.new)) }
+        ensures faulted { IsErrOf result FetchRefusal.Faulted → Rose (faults self.old) (faults self.new) }
+        ensures faults_kept { faults self.old ≤ faults self.new }
+        ensures absent_kept { absent self.old ≤ absent self.new };
+}

@@ -1,0 +1,2 @@
+//! Thermodynamic quantities: temperature, pressure, and energies as they are shown.
+#![tactic(auto)]

@@ -1,0 +1,41 @@
+-- Forms of texts. A form is a text in which `%` stands for a word and `*` for the rest of a line; all else stands for itself.
+use Rattle.std.specs.Prelude.{◌≡◌, ◌==◌, ◌&&◌, Bool, true, false, not, cond, ℕ, Option, Some, None, List, [], ◌∷◌, map, take, drop}
+use Rattle.std.specs.List.{prefix_len}
+use Rattle.std.specs.Option.{option_map}
+
+-- what one byte of a form stands for
+pub data Part : Type 0 where
+  word : Part
+  line : Part
+  byte : ℕ → Part
+
+abbrev pub part_of : ℕ → Part
+part_of c = cond (c == 37) word (cond (c == 42) line (byte c))
+
+-- the bytes of a word: neither a blank nor a line feed
+abbrev pub is_word_byte : ℕ → Bool
+is_word_byte c = not (c == 32) && not (c == 10)
+
+abbrev pub is_line_byte : ℕ → Bool
+is_line_byte c = not (c == 10)
+
+abbrev pub word_of : List ℕ → List ℕ
+word_of text = take (prefix_len is_word_byte text) text
+
+abbrev pub after_word : List ℕ → List ℕ
+after_word text = drop (prefix_len is_word_byte text) text
+
+abbrev pub after_line : List ℕ → List ℕ
+after_line text = drop (prefix_len is_line_byte text) text
+
+-- the words of a text at the places of a form, if the text is of that form
+abbrev pub words_at : List Part → List ℕ → Option (List (List ℕ))
+words_at [] [] = Some []
+words_at [] (c ∷ text) = None
+words_at (word ∷ parts) text = option_map (λ words. word_of text ∷ words) (words_at parts (after_word text))
+words_at (line ∷ parts) text = words_at parts (after_line text)
+words_at (byte c ∷ parts) [] = None
+words_at (byte c ∷ parts) (d ∷ text) = cond (c == d) (words_at parts text) None
+
+unfoldable pub words_of : List ℕ → List ℕ → Option (List (List ℕ))
+words_of form text = words_at (map part_of form) text

@@ -1,0 +1,5 @@
+pub mod FirstForm
+pub mod Forms
+pub mod Names
+pub mod Serial
+pub mod Words

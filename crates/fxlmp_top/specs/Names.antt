@@ -1,0 +1,32 @@
+-- Names of files.
+use Rattle.std.specs.Prelude.{◌≡◌, ◌==◌, ◌&&◌, ◌||◌, ◌-◌, Bool, true, false, not, ℕ, nat_le, List, [], ◌∷◌, length, drop, codes}
+use Rattle.std.specs.List.{list_all, list_any}
+use Rattle.std.specs.Str.{bytes_eq}
+
+-- printable ASCII, but no blank, quote, `*` or `%`
+abbrev pub is_name_byte : ℕ → Bool
+is_name_byte c = nat_le 33 c && nat_le c 126 && not (c == 34) && not (c == 39) && not (c == 42) && not (c == 37)
+
+-- the name of a file: 1 to 255 such bytes
+abbrev pub is_file_name : List ℕ → Bool
+is_file_name name = nat_le 1 (length name) && nat_le (length name) 255 && list_all is_name_byte name
+
+abbrev pub ends_with : List ℕ → List ℕ → Bool
+ends_with name ending = nat_le (length ending) (length name) && bytes_eq (drop (length name - length ending) name) ending
+
+-- a name that stands for a compressed file
+abbrev pub is_compressed : List ℕ → Bool
+is_compressed name =
+    ends_with name (codes ".gz") || ends_with name (codes ".bz2") || ends_with name (codes ".xz") || ends_with name (codes ".zst") || ends_with name (codes ".lz4")
+
+-- the log's name
+abbrev pub log_name : List ℕ
+log_name = codes "log.lammps"
+
+-- the name under which pieces go to the screen
+abbrev pub screen_name : List ℕ
+screen_name = codes "*screen*"
+
+-- the name of a file that can be fetched: not the log, and not compressed
+unfoldable pub is_input_name : List ℕ → Bool
+is_input_name name = is_file_name name && not (bytes_eq name log_name) && not (is_compressed name)

@@ -1,0 +1,8 @@
+//! The top call of the program, [`run_words`]: from the words of the command line and the files on a
+//! shelf to the pieces of the serial meaning and its status.
+#![tactic(auto)]
+
+mod first_form;
+mod status;
+
+pub use status::Status;

@@ -1,0 +1,23 @@
+//! How a run of the program ends.
+
+use box_geo::FaultKey;
+
+/// How a run ends.
+#[derive(Clone, Copy, Debug, PartialEq, Eq)]
+pub enum Status {
+    /// The script was run to its end.
+    Done,
+    /// A quantity left its range at this step; the key says which.
+    RangeFault { key: FaultKey, step: u64 },
+    /// The shelf failed.
+    ReadFault,
+    /// The press failed.
+    WriteFault,
+    /// Out of memory.
+    NoMemory,
+    /// The words are no command line: the place of the first wrong word, or the number of words
+    /// where one is missing.
+    Usage { place: u64 },
+    /// A file is missing, too long, or in a form that is not built yet.
+    NotBuilt,
+}

@@ -1,6 +1,6 @@
 -- Names of files.
-use Rattle.std.specs.Prelude.{◌≡◌, ◌==◌, ◌&&◌, ◌||◌, ◌-◌, Bool, true, false, not, ℕ, nat_le, List, [], ◌∷◌, length, drop, codes}
-use Rattle.std.specs.List.{list_all, list_any}
+use Rattle.std.specs.Prelude.{◌≡◌, ◌==◌, ◌&&◌, ◌||◌, Bool, true, false, not, ℕ, nat_le, nat_eq, List, [], ◌∷◌, length, codes}
+use Rattle.std.specs.List.{list_all, ends_with}
 use Rattle.std.specs.Str.{bytes_eq}
 
 -- printable ASCII, but no blank, quote, `*` or `%`
@@ -11,13 +11,10 @@ is_name_byte c = nat_le 33 c && nat_le c 126 && not (c == 34) && not (c == 39) &
 abbrev pub is_file_name : List ℕ → Bool
 is_file_name name = nat_le 1 (length name) && nat_le (length name) 255 && list_all is_name_byte name
 
-abbrev pub ends_with : List ℕ → List ℕ → Bool
-ends_with name ending = nat_le (length ending) (length name) && bytes_eq (drop (length name - length ending) name) ending
-
 -- a name that stands for a compressed file
 abbrev pub is_compressed : List ℕ → Bool
 is_compressed name =
-    ends_with name (codes ".gz") || ends_with name (codes ".bz2") || ends_with name (codes ".xz") || ends_with name (codes ".zst") || ends_with name (codes ".lz4")
+    ends_with nat_eq name (codes ".gz") || ends_with nat_eq name (codes ".bz2") || ends_with nat_eq name (codes ".xz") || ends_with nat_eq name (codes ".zst") || ends_with nat_eq name (codes ".lz4")
 
 -- the log's name
 abbrev pub log_name : List ℕ

@@ -3,6 +3,9 @@
 #![tactic(auto)]
 
 mod first_form;
+mod forms;
+mod names;
 mod status;
+mod words;
 
 pub use status::Status;

@@ -4,7 +4,7 @@
 -- exponent: `e` or `E`, an optional sign, one to three digits. At most 24 digits count from the first that is not 0 on.
 -- Its value is an exact fraction, rounded once to units of 2^-24, a tie away from zero; above 2^62 units it is out of range.
 -- A whole number is 1 to 19 digits.
-use Rattle.std.specs.Prelude.{◌≡◌, ◌+◌, ◌-◌, ◌*◌, ◌^◌, ◌<◌, ◌≤◌, ◌==◌, ◌&&◌, ◌||◌, Bool, true, false, cond, nat_lt, nat_le, ℕ, ℤ, zero, suc, pos, negsuc, Option, Some, None, Result, Ok, Err, List, [], ◌∷◌, ◌++◌, length, take, drop, unsigned_abs}
+use Rattle.std.specs.Prelude.{◌+◌, ◌*◌, ◌^◌, ◌==◌, ◌&&◌, ◌||◌, Bool, false, cond, nat_lt, nat_le, ℕ, ℤ, suc, pos, negsuc, Option, Some, None, Result, Ok, Err, List, [], ◌∷◌, ◌++◌, length, take, drop}
 use Rattle.std.specs.Char.{is_ascii_digit}
 use Rattle.std.specs.List.{prefix_len}
 use Rattle.std.specs.Str.Parse.{digits_value}

@@ -1,11 +1,12 @@
 //! The texts that numbers are read from.
-ghost use Rattle.std.specs.Prelude.{◌≡◌, ◌+◌, ◌-◌, ◌*◌, ◌^◌, ◌<◌, ◌≤◌, ◌==◌, ◌++◌, ℕ, ℤ, pos, cond, Some, None, List, length, take, drop, nat_le, unsigned_abs, IfOk, IfSome, SomeIff, IsTrue, nat_lt, ◌&&◌};
+ghost use Rattle.std.specs.Prelude.{◌≡◌, ◌↔◌, ◌+◌, ◌*◌, ◌^◌, ◌<◌, ◌≤◌, ◌==◌, ◌&&◌, ℤ, Some, Err, List, ℕ, length, nat_lt, nat_le, unsigned_abs, IfOk, SomeIff, IsTrue};
 ghost use Rattle.std.specs.Bool.{OnTrue};
 ghost use Rattle.std.specs.Char.{is_ascii_digit};
 ghost use Rattle.std.specs.List.{prefix_len, list_all};
 ghost use Rattle.std.specs.Str.Parse.{digits_value, digits_value_after};
 ghost use Rattle.fx_num.specs.Rounding.{nearest_of, with_sign};
-ghost use Rattle.fx_num.specs.Decimal.{Decimal, read_number, read_count, decimal_of, decimal_units, exponent_of, significant, digits_of, leading_digits, after_digits, has_minus, after_sign, fraction_digits, after_fraction, is_exponent_digits, above_zero, below_zero};
+ghost use Rattle.fx_num.specs.declared.decimal.NumError.TheVariants.{NotNumber};
+ghost use Rattle.fx_num.specs.Decimal.{Decimal, IsDecimalText, read_number, read_count, decimal_of, decimal_units, exponent_of, significant, digits_of, leading_digits, after_digits, has_minus, after_sign, fraction_digits, after_fraction, is_exponent_digits, above_zero, below_zero};
 
 use crate::UNIT;
 use crate::rounding::nearest;
@@ -366,3 +367,17 @@ fn signed(negative: bool, magnitude: u128) -> i64
         magnitude as i64
     }
 }
+
+/// The form of decimal texts.
+///
+/// A text reads as these parts exactly where it is their sign, digits, point, digits and exponent,
+/// one after the other. It has one such reading at most, and is not a number exactly where it has
+/// none.
+pub fn decimal_text_form()
+    ensures form { (text : List ℕ) (d : Decimal)
+        → (decimal_of text ≡ Some d) ↔ IsDecimalText text d }
+    ensures one_reading { (text : List ℕ) (d e : Decimal)
+        → IsDecimalText text d → IsDecimalText text e → d ≡ e }
+    ensures refusal { (text : List ℕ) → (read_number text ≡ Err NotNumber)
+        ↔ ((d : Decimal) → IsDecimalText text d → ⊥) }
+{}

@@ -1,5 +1,5 @@
 -- Worked numbers: the definitions compute what was worked out by hand.
-use Rattle.std.proofs.Common.{◌≡◌, ◌^◌, ℕ, pos, negsuc, neg_ℤ, Ok, Err, refl}
+use Rattle.std.proofs.Common.{◌≡◌, ◌^◌, pos, neg_ℤ, Ok, refl}
 use Rattle.std.specs.Prelude.{codes}
 use Rattle.std.specs.Fmt.{digits}
 use Rattle.fx_num.specs.Rounding.{nearest_of, div_rounded}

@@ -4,9 +4,9 @@
 -- exponent: `e` or `E`, an optional sign, one to three digits. At most 24 digits count from the first that is not 0 on.
 -- Its value is an exact fraction, rounded once to units of 2^-24, a tie away from zero; above 2^62 units it is out of range.
 -- A whole number is 1 to 19 digits.
-use Rattle.std.specs.Prelude.{◌≡◌, ◌+◌, ◌-◌, ◌*◌, ◌^◌, ◌<◌, ◌≤◌, ◌==◌, ◌&&◌, ◌||◌, Bool, true, false, cond, nat_lt, nat_le, ℕ, ℤ, zero, suc, pos, negsuc, Option, Some, None, Result, Ok, Err, List, [], ◌∷◌, ◌++◌, length, take, drop, unsigned_abs}
+use Rattle.std.specs.Prelude.{◌≡◌, ◌⊎◌, ◌+◌, ◌*◌, ◌^◌, ◌<◌, ◌≤◌, ◌==◌, ◌&&◌, ◌||◌, Bool, true, false, cond, nat_lt, nat_le, ℕ, ℤ, suc, pos, negsuc, Option, Some, None, Result, Ok, Err, List, [], ◌∷◌, ◌++◌, length, take, drop}
 use Rattle.std.specs.Char.{is_ascii_digit}
-use Rattle.std.specs.List.{prefix_len}
+use Rattle.std.specs.List.{prefix_len, AllPass}
 use Rattle.std.specs.Str.Parse.{digits_value}
 use Rattle.fx_num.specs.Rounding.{nearest_of, with_sign}
 use Rattle.fx_num.specs.declared.decimal.NumError.{NumError}
@@ -69,6 +69,46 @@ decimal_unsigned negative text =
 -- the parts of a decimal text, if it is one
 unfoldable pub decimal_of : List ℕ → Option Decimal
 decimal_of text = decimal_unsigned (has_minus text) (after_sign text)
+
+-- a sign that may stand before digits: nothing, `+`, or `-` for a negative number
+abbrev pub IsSign : Bool → List ℕ → Type 0
+IsSign true sign = sign ≡ 45 ∷ []
+IsSign false sign = (sign ≡ []) ⊎ (sign ≡ 43 ∷ [])
+
+-- a point, which may be left out where no digits follow
+abbrev pub IsPoint : List ℕ → List ℕ → Type 0
+IsPoint fraction point = (point ≡ 46 ∷ []) ⊎ ((point ≡ []) × (fraction ≡ []))
+
+-- an exponent is its letter, an optional sign and one to three digits
+pub record WritesExponent (exponent : ℤ) (text : List ℕ) : Type 0 where
+  pub letter : ℕ
+  pub negative : Bool
+  pub sign : List ℕ
+  pub digits : List ℕ
+  pub is_text : text ≡ letter ∷ (sign ++ digits)
+  pub is_letter : (letter ≡ 101) ⊎ (letter ≡ 69)
+  pub is_sign : IsSign negative sign
+  pub all_digits : AllPass is_ascii_digit digits
+  pub some_digit : 0 < length digits
+  pub few_digits : length digits ≤ 3
+  pub is_value : exponent ≡ with_sign negative (digits_value 10 digits)
+
+-- an exponent, or nothing for 0
+abbrev pub IsExponent : ℤ → List ℕ → Type 0
+IsExponent exponent text = ((text ≡ []) × (exponent ≡ pos 0)) ⊎ WritesExponent exponent text
+
+-- the form of a decimal text: sign, digits, point, digits, exponent, with at least one digit
+pub record IsDecimalText (text : List ℕ) (d : Decimal) : Type 0 where
+  pub sign : List ℕ
+  pub point : List ℕ
+  pub exponent : List ℕ
+  pub is_text : text ≡ sign ++ (d.whole ++ (point ++ (d.fraction ++ exponent)))
+  pub is_sign : IsSign d.negative sign
+  pub whole_digits : AllPass is_ascii_digit d.whole
+  pub is_point : IsPoint d.fraction point
+  pub fraction_digits : AllPass is_ascii_digit d.fraction
+  pub is_exponent : IsExponent d.exponent exponent
+  pub some_digit : 0 < length d.whole + length d.fraction
 
 -- how many digits count: those from the first that is not 0 on
 abbrev pub significant : List ℕ → ℕ

@@ -13,7 +13,7 @@ mod seq;
 mod steps;
 mod text;
 
-pub use decimal::NumError;
+pub use decimal::{MAX_UNITS, NumError, decimal_text_form, read_decimal, read_whole};
 pub use memory::NoMemory;
 pub use numbers::{Number, Numbers};
 pub use rounding::{nearest, nearest_shift, rdiv, rounding_is_odd, rounding_is_the_nearest, rsh};

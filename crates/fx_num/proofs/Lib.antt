@@ -1,2 +1,5 @@
+pub mod PrintLemmas
+pub mod RoundTrip
 pub mod RoundingLemmas
 mod Worked
+mod WorkedPrint

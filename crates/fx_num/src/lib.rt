@@ -7,11 +7,13 @@
 
 mod decimal;
 mod memory;
+mod print;
 mod rounding;
 mod text;
 
 pub use decimal::NumError;
 pub use memory::NoMemory;
+pub use print::{print_fix, print_whole, printed_reads_back};
 pub use rounding::{nearest, nearest_shift, rdiv, rounding_is_odd, rounding_is_the_nearest, rsh};
 pub use text::Text;
 

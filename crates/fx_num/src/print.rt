@@ -1,5 +1,5 @@
 //! The texts that numbers are printed as.
-ghost use Rattle.std.specs.Prelude.{◌≡◌, ◌+◌, ◌*◌, ◌^◌, ◌<◌, ◌≤◌, [], ◌++◌, ℤ, ℕ, length, unsigned_abs, decimal, IsAscii, Ok};
+ghost use Rattle.std.specs.Prelude.{◌≡◌, ◌*◌, ◌^◌, ◌<◌, ◌≤◌, [], ◌++◌, ℤ, length, unsigned_abs, decimal, IsAscii, Ok};
 ghost use Rattle.arrayvec.specs.ArrayString.{array_string_len};
 ghost use Rattle.fx_num.specs.Rounding.{nearest_of};
 ghost use Rattle.fx_num.specs.Decimal.{read_number};

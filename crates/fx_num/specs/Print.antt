@@ -1,5 +1,5 @@
 -- The texts that numbers are printed as.
-use Rattle.std.specs.Prelude.{◌≡◌, ◌+◌, ◌*◌, ◌/◌, ◌%◌, ◌^◌, ℕ, ℤ, pos, negsuc, List, [], ◌∷◌, ◌++◌, drop, unsigned_abs}
+use Rattle.std.specs.Prelude.{◌+◌, ◌*◌, ◌/◌, ◌%◌, ◌^◌, ℕ, ℤ, pos, negsuc, List, [], ◌∷◌, ◌++◌, drop, unsigned_abs}
 use Rattle.std.specs.Fmt.{decimal}
 use Rattle.fx_num.specs.Rounding.{nearest_of}
 

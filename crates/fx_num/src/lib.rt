@@ -8,6 +8,7 @@
 mod decimal;
 mod memory;
 mod numbers;
+mod print;
 mod rounding;
 mod seq;
 mod steps;
@@ -16,6 +17,7 @@ mod text;
 pub use decimal::{MAX_UNITS, NumError, decimal_text_form, read_decimal, read_whole};
 pub use memory::NoMemory;
 pub use numbers::{Number, Numbers};
+pub use print::{print_fix, print_whole, printed_reads_back};
 pub use rounding::{nearest, nearest_shift, rdiv, rounding_is_odd, rounding_is_the_nearest, rsh};
 pub use seq::Seq;
 pub use steps::Steps;

@@ -115,7 +115,8 @@ impl Model for MemShelf {
 }
 
 impl MemShelf {
-    /// A shelf with these files, whose calls of these numbers fail.
+    /// A shelf with these files, whose calls of these numbers fail. The only error is want of
+    /// memory.
     pub fn new(_alloc: Global, files: Files, fail: Calls) -> Result<MemShelf, NoMemory>
         requires { IsDistinctNames files }
         ensures { IfOk result (λ shelf. shelf ≡ record { files = files; fail = fail; calls = 0; faults = 0; absent = 0 }) }
@@ -182,7 +183,8 @@ impl Model for MemPress {
 }
 
 impl MemPress {
-    /// A press that was sent nothing, whose calls of these cuts fail.
+    /// A press that was sent nothing, whose calls of these cuts fail. The only error is want of
+    /// memory.
     pub fn new(alloc: Global, fail: Cuts) -> Result<MemPress, NoMemory>
         ensures { IfOk result (λ press. press ≡ record { sent = []; fail = fail; calls = 0; faults = 0 }) }
     {

@@ -25,7 +25,7 @@ impl Model for SureShelf {
 }
 
 impl SureShelf {
-    /// A shelf with these files.
+    /// A shelf with these files. The only error is want of memory.
     pub fn new(_alloc: Global, files: Files) -> Result<SureShelf, NoMemory>
         requires { IsDistinctNames files }
         ensures { IfOk result (λ shelf. shelf ≡ files) }
@@ -62,7 +62,7 @@ impl Model for SurePress {
 }
 
 impl SurePress {
-    /// A press that was sent nothing.
+    /// A press that was sent nothing. The only error is want of memory.
     pub fn new(alloc: Global) -> Result<SurePress, NoMemory>
         ensures { IfOk result (λ press. press ≡ []) }
     {

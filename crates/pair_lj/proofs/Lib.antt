@@ -1,1 +1,4 @@
 mod Worked
+mod Sizes
+mod SignLemmas
+mod PlaceLemmas

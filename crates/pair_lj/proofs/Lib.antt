@@ -2,3 +2,4 @@ mod Worked
 mod Sizes
 mod SignLemmas
 mod PlaceLemmas
+mod Cases

@@ -3,6 +3,7 @@
 
 mod close;
 mod coefficients;
+mod evaluate;
 mod magnitudes;
 mod signs;
 mod table;

@@ -1,5 +1,5 @@
 //! The magnitudes of the pair term. One function for each rounding, with its value and its bound.
-ghost use Rattle.std.specs.Prelude.{◌≡◌, ◌+◌, ◌*◌, ◌^◌, ◌<◌, ◌≤◌, unsigned_abs};
+ghost use Rattle.std.specs.Prelude.{◌≡◌, ◌+◌, ◌*◌, ◌^◌, ◌<◌, ◌≤◌};
 ghost use Rattle.fx_num.specs.Rounding.{nearest_of};
 
 use fx_num::{nearest, nearest_shift};
@@ -16,16 +16,14 @@ pub(crate) fn square(a: u64) -> u128
     u128::from(a) * u128::from(a)
 }
 
-/// The square of the distance.
-pub(crate) fn distance2(x: i64, y: i64, z: i64) -> u128
-    requires x { unsigned_abs x < 2 ^ 34 }
-    requires y { unsigned_abs y < 2 ^ 34 }
-    requires z { unsigned_abs z < 2 ^ 34 }
-    ensures is { result ≡ unsigned_abs x * unsigned_abs x
-        + unsigned_abs y * unsigned_abs y
-        + unsigned_abs z * unsigned_abs z }
+/// The square of the distance, from the magnitudes of the components.
+pub(crate) fn distance2(a: u64, b: u64, c: u64) -> u128
+    requires a { a < 2 ^ 34 }
+    requires b { b < 2 ^ 34 }
+    requires c { c < 2 ^ 34 }
+    ensures { result ≡ a * a + b * b + c * c }
 {
-    square(x.unsigned_abs()) + square(y.unsigned_abs()) + square(z.unsigned_abs())
+    square(a) + square(b) + square(c)
 }
 
 /// The square of sigma over that of the distance, in units of 2^-32.

@@ -36,15 +36,15 @@ pub(crate) fn product(negative: bool, size: u128, x: i64) -> i64
     ensures is { result ≡ shr_rounded (with_sign negative size *ℤ x) 32 }
     ensures bound { unsigned_abs result ≤ 2 ^ 42 }
 {
-    signed(negative != x.is_negative(), product_size(size, x))
+    signed(negative != x.is_negative(), product_size(size, x.unsigned_abs()))
 }
 
-/// The magnitude of the product of a number of this magnitude and x over 2^32, rounded.
-pub(crate) fn product_size(size: u128, x: i64) -> u128
-    requires { size * unsigned_abs x < 2 ^ 126 }
-    ensures { result ≡ nearest_of (size * unsigned_abs x) (2 ^ 32) }
+/// The product of two magnitudes over 2^32, rounded.
+pub(crate) fn product_size(size: u128, a: u64) -> u128
+    requires { size * a < 2 ^ 126 }
+    ensures { result ≡ nearest_of (size * a) (2 ^ 32) }
 {
-    nearest_shift(size * u128::from(x.unsigned_abs()), 32)
+    nearest_shift(size * u128::from(a), 32)
 }
 
 /// The product of a length and a component of a force.

@@ -11,7 +11,8 @@ returns-clause-is c =
     let fits : FitsSigned w64 c.signed.result = search rules in
     let x_is : to_z w64 (of_z w64 c.args.x) ≡ c.args.x = to_z-of_z w64 c.args.x c.ranges.x in
     let sign_is : c.is_negative.result ≡ is_negative c.args.x = c.is_negative.ensures ∙ ap is_negative x_is in
-    let size_is : c.product_size.result ≡ nearest_of (c.args.size * unsigned_abs c.args.x) (2 ^ 32) = c.product_size.ensures ∙ ap (λ (v : ℤ). nearest_of (c.args.size * unsigned_abs v) (2 ^ 32)) x_is in
+    let magnitude_is : c.unsigned_abs.result ≡ unsigned_abs c.args.x = c.unsigned_abs.ensures.value ∙ ap unsigned_abs x_is in
+    let size_is : c.product_size.result ≡ nearest_of (c.args.size * unsigned_abs c.args.x) (2 ^ 32) = c.product_size.ensures ∙ ap (λ (n : ℕ). nearest_of (c.args.size * n) (2 ^ 32)) magnitude_is in
     to_z-of_z w64 c.signed.result fits
       ∙ c.signed.ensures.is
       ∙ ap (with_sign (not (beq c.args.negative c.is_negative.result))) size_is

@@ -1,1 +1,5 @@
 mod Worked
+mod Sizes
+mod SignLemmas
+mod PlaceLemmas
+mod Cases

@@ -1,1 +1,3 @@
 pub mod PairTerm
+pub mod Places
+pub mod Table

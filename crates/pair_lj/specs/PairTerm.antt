@@ -53,6 +53,13 @@ is_too_near sigma r2 = (r2 == 0) || nat_lt (2 ^ 36) (inverse_square sigma r2)
 abbrev pub is_too_strong : List ℤ → Bool
 is_too_strong f = nat_lt (2 ^ 42) (unsigned_abs (x_of f)) || nat_lt (2 ^ 42) (unsigned_abs (y_of f)) || nat_lt (2 ^ 42) (unsigned_abs (z_of f))
 
+-- a force whose components are of magnitudes up to 2^42
+abbrev pub IsModerate : List ℤ → Type 0
+IsModerate f = (unsigned_abs (x_of f) ≤ 2 ^ 42) × (unsigned_abs (y_of f) ≤ 2 ^ 42) × (unsigned_abs (z_of f) ≤ 2 ^ 42)
+
+abbrev pub HasModerateForce : Term → Type 0
+HasModerateForce t = IsModerate t.f
+
 -- the term of a pair with a special weight in units, 2^24 for a whole term
 unfoldable pub weighted_term : ℤ → ℤ → ℕ → List ℤ → Term
 weighted_term c e weight d =

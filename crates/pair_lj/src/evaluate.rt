@@ -1,0 +1,125 @@
+//! The pair term at a displacement.
+ghost use Rattle.std.specs.Prelude.{◌≡◌, ◌+◌, ◌*◌, ◌^◌, ◌<◌, ◌≤◌, ◌⊎◌, [], ◌∷◌, pos, ◌-ℤ◌, ◌*ℤ◌, unsigned_abs, IfOk, IfSome, MatchBool};
+ghost use Rattle.box_geo.specs.Sides.{x_of, y_of, z_of};
+ghost use Rattle.fx_num.specs.Rounding.{nearest_of, div_rounded, shr_rounded, with_sign};
+ghost use Rattle.pair_lj.specs.PairTerm.{pair_term, force_along, dot, HasModerateForce, IsModerate};
+
+use crate::close::Close;
+use crate::coefficients::Coefficients;
+use crate::magnitudes::{cube, distance2, energy_size, square, square_of_sixth, square_ratio, strength_size, weighted};
+use crate::signs::{difference, product, product_size, signed, work};
+use box_geo::Term;
+use box_geo::limits::MAX_TERM_FORCE;
+use fx_num::V3;
+
+/// The greatest square of sigma over the distance, 16 in units of 2^-32.
+const MAX_SQUARE_RATIO: u128 = 1 << 36;
+
+/// The term of atoms i and j at the displacement d from j to i, with a special weight in units.
+pub(crate) fn evaluate(k: Coefficients, d: V3, weight: u64) -> Result<Option<Term>, Close>
+    requires x { unsigned_abs (x_of d) < 2 ^ 34 }
+    requires y { unsigned_abs (y_of d) < 2 ^ 34 }
+    requires z { unsigned_abs (z_of d) < 2 ^ 34 }
+    requires weight { weight ≤ 2 ^ 24 }
+    ensures is { result ≡ pair_term k.epsilon k.sigma k.cutoff (pos 0) weight d }
+    ensures bounded { IfOk result (λ o. IfSome o HasModerateForce) }
+{
+    evaluate_at(k, d[0], d[1], d[2], weight)
+}
+
+/// The term at the displacement (x, y, z).
+fn evaluate_at(k: Coefficients, x: i64, y: i64, z: i64, weight: u64) -> Result<Option<Term>, Close>
+    requires x { unsigned_abs x < 2 ^ 34 }
+    requires y { unsigned_abs y < 2 ^ 34 }
+    requires z { unsigned_abs z < 2 ^ 34 }
+    requires weight { weight ≤ 2 ^ 24 }
+    ensures is { result ≡ pair_term k.epsilon k.sigma k.cutoff (pos 0) weight (x ∷ y ∷ z ∷ []) }
+    ensures bounded { IfOk result (λ o. IfSome o HasModerateForce) }
+{
+    let (a, b, c) = (x.unsigned_abs(), y.unsigned_abs(), z.unsigned_abs());
+    let r2 = distance2(a, b, c);
+    if square(k.cutoff) <= r2 {
+        return Ok(None);
+    }
+    if r2 == 0 {
+        return Err(Close);
+    }
+    let w = square_ratio(k.sigma, r2);
+    if w > MAX_SQUARE_RATIO {
+        return Err(Close);
+    }
+    let s6 = cube(w);
+    let s12 = square_of_sixth(s6);
+    let (negative, size) = strength(k.epsilon, s6, s12, r2);
+    if is_too_strong(size, a, b, c) {
+        return Err(Close);
+    }
+    let energy = energy(k.epsilon, s6, s12, weight);
+    Ok(Some(term(negative, weighted(size, weight), energy, x, y, z)))
+}
+
+/// The force over the displacement, by its sign and its magnitude.
+fn strength(epsilon: u64, s6: u128, s12: u128, r2: u128) -> (bool, u128)
+    requires epsilon { epsilon ≤ 2 ^ 32 }
+    requires s6 { s6 ≤ 2 ^ 44 }
+    requires s12 { s12 ≤ 2 ^ 56 }
+    requires apart { 0 < r2 }
+    requires near { r2 ≤ 2 ^ 56 }
+    ensures is { with_sign result.0 result.1 ≡ div_rounded (pos (24 * epsilon) *ℤ (pos (2 * s12) -ℤ pos s6) *ℤ pos (2 ^ 24)) (pos r2) }
+    ensures bound { result.1 * r2 ≤ 2 ^ 120 }
+{
+    let (negative, gap) = difference(2 * s12, s6);
+    (negative, strength_size(epsilon, gap, r2))
+}
+
+/// The energy with its weight.
+fn energy(epsilon: u64, s6: u128, s12: u128, weight: u64) -> i64
+    requires epsilon { epsilon ≤ 2 ^ 32 }
+    requires s6 { s6 ≤ 2 ^ 44 }
+    requires s12 { s12 ≤ 2 ^ 56 }
+    requires weight { weight ≤ 2 ^ 24 }
+    ensures { result ≡ shr_rounded (shr_rounded (pos (4 * epsilon) *ℤ (pos s12 -ℤ pos s6)) 32 *ℤ pos weight) 24 }
+{
+    let (negative, gap) = difference(s12, s6);
+    signed(negative, weighted(energy_size(epsilon, gap), weight))
+}
+
+/// Whether a component of the force is of too great a magnitude, by those of the displacement.
+fn is_too_strong(size: u128, a: u64, b: u64, c: u64) -> bool
+    requires a { size * a < 2 ^ 126 }
+    requires b { size * b < 2 ^ 126 }
+    requires c { size * c < 2 ^ 126 }
+    ensures { MatchBool result
+        ((2 ^ 42 < nearest_of (size * a) (2 ^ 32))
+            ⊎ ((2 ^ 42 < nearest_of (size * b) (2 ^ 32)) ⊎ (2 ^ 42 < nearest_of (size * c) (2 ^ 32))))
+        ((nearest_of (size * a) (2 ^ 32) ≤ 2 ^ 42)
+            × (nearest_of (size * b) (2 ^ 32) ≤ 2 ^ 42)
+            × (nearest_of (size * c) (2 ^ 32) ≤ 2 ^ 42)) }
+{
+    let limit = MAX_TERM_FORCE as u128;
+    product_size(size, a) > limit || product_size(size, b) > limit || product_size(size, c) > limit
+}
+
+/// The term of a strength, its weight included, and an energy.
+fn term(negative: bool, size: u128, energy: i64, x: i64, y: i64, z: i64) -> Term
+    requires fits_x { size * unsigned_abs x < 2 ^ 126 }
+    requires fits_y { size * unsigned_abs y < 2 ^ 126 }
+    requires fits_z { size * unsigned_abs z < 2 ^ 126 }
+    requires small_x { nearest_of (size * unsigned_abs x) (2 ^ 32) ≤ 2 ^ 42 }
+    requires small_y { nearest_of (size * unsigned_abs y) (2 ^ 32) ≤ 2 ^ 42 }
+    requires small_z { nearest_of (size * unsigned_abs z) (2 ^ 32) ≤ 2 ^ 42 }
+    requires x { unsigned_abs x < 2 ^ 34 }
+    requires y { unsigned_abs y < 2 ^ 34 }
+    requires z { unsigned_abs z < 2 ^ 34 }
+    ensures force { result.f ≡ force_along (with_sign negative size) (x ∷ y ∷ z ∷ []) }
+    ensures energy { result.energy ≡ energy }
+    ensures virial { result.virial ≡ dot (x ∷ y ∷ z ∷ []) result.f }
+    ensures bounded { IsModerate result.f }
+{
+    let (f, g, h) = (product(negative, size, x), product(negative, size, y), product(negative, size, z));
+    Term {
+        f: [f, g, h],
+        energy,
+        virial: work(x, y, z, f, g, h),
+    }
+}

@@ -2,12 +2,16 @@
 use Rattle.std.specs.Prelude.{◌≡◌, ◌+◌, ◌*◌, ◌^◌, ◌==◌, Bool, true, false, cond, nat_lt, nat_le, ℕ, ℤ, pos, ◌+ℤ◌, unsigned_abs, Option, Some, None, Result, Ok, Err, List, [], ◌∷◌, ◌++◌, length, flat_map, count_by, codes}
 use Rattle.std.specs.Fmt.{decimal}
 use Rattle.fx_num.specs.declared.numbers.Number.{Number}
+use Rattle.box_geo.specs.declared.limits.TheConstants.{DEFAULT_SKIN, MAX_SCRIPT_BYTES}
 use Rattle.box_geo.specs.declared.sim_box.Sides.{Sides}
 use Rattle.box_geo.specs.declared.term.Term.{Term}
 use Rattle.box_geo.specs.declared.fault.FaultKey.{FaultKey}
 use Rattle.box_geo.specs.Sides.{near_image, length2}
-use Rattle.box_geo.specs.Fault.{key_word}
+use Rattle.box_geo.specs.Fault.{key_word, phase_number, kind_number}
+use Rattle.box_geo.specs.declared.fault.FaultPhase.TheVariants.{Drift, Forces}
+use Rattle.box_geo.specs.declared.fault.FaultKind.TheVariants as fault
 use Rattle.sums.specs.Totals.{total, half}
+use Rattle.outside.specs.declared.shelf.TheConstants.{MAX_FETCHED}
 use Rattle.outside.specs.declared.files.File.{File}
 use Rattle.outside.specs.declared.press.Piece.{Piece}
 use Rattle.outside.specs.Sent.{piece_of}
@@ -20,7 +24,7 @@ use Rattle.fxlmp_top.specs.declared.first_form.Script.{Script}
 use Rattle.fxlmp_top.specs.declared.first_form.Data.{Data}
 use Rattle.fxlmp_top.specs.declared.status.Status.{Status}
 use Rattle.fxlmp_top.specs.declared.status.Status.TheVariants.{Done, RangeFault, Usage, NotBuilt}
-use Rattle.fxlmp_top.specs.FirstForm.{script_of, data_of}
+use Rattle.fxlmp_top.specs.FirstForm.{script_of, data_of, box_of}
 use Rattle.fxlmp_top.specs.Names.{log_name, screen_name}
 use Rattle.fxlmp_top.specs.Words.{script_name}
 
@@ -54,18 +58,18 @@ virial_of (Err close) = pos 0
 
 -- the sums over all unordered pairs of atoms
 abbrev pub pair_energy : Script → Data → ℤ
-pair_energy s d = total (λ p. energy_of (term_of s d.sides p)) (half (atoms_of d))
+pair_energy s d = total (λ p. energy_of (term_of s (box_of d) p)) (half (atoms_of d))
 
 abbrev pub pair_virial : Script → Data → ℤ
-pair_virial s d = total (λ p. virial_of (term_of s d.sides p)) (half (atoms_of d))
+pair_virial s d = total (λ p. virial_of (term_of s (box_of d) p)) (half (atoms_of d))
 
--- the fault of a pair: phase 2, forces; kind 1, Close; the lesser id first
+-- the fault of a pair; the lesser id stands first, since the atoms are in rising order of id
 abbrev pub close_key : Placed × Placed → Result (Option Term) Close → List FaultKey
 close_key p (Ok t) = []
-close_key p (Err close) = record { phase = 2; kind = 1; a = p.0.id; b = p.1.id } ∷ []
+close_key p (Err close) = record { phase = phase_number Forces; kind = kind_number fault.Close; a = p.0.id; b = p.1.id } ∷ []
 
 abbrev pub keys_of : Script → Data → List FaultKey
-keys_of s d = flat_map (λ p. close_key p (term_of s d.sides p)) (half (atoms_of d))
+keys_of s d = flat_map (λ p. close_key p (term_of s (box_of d) p)) (half (atoms_of d))
 
 -- the key of the least number, if there is one
 abbrev pub lesser_key : FaultKey → Option FaultKey → Option FaultKey
@@ -76,10 +80,10 @@ abbrev pub least_key : List FaultKey → Option FaultKey
 least_key [] = None
 least_key (k ∷ keys) = lesser_key k (least_key keys)
 
--- the pairs of atoms nearer than the cutoff and the default skin, 0.3
+-- the pairs of atoms nearer than the sum of the cutoff and the default skin, 0.3
 abbrev pub neighbours : Script → Data → ℕ
 neighbours s d =
-    count_by (λ p. nat_lt (length2 (near_image d.sides p.0.x p.1.x)) ((unsigned_abs s.cutoff + 5033165) * (unsigned_abs s.cutoff + 5033165))) (half (atoms_of d))
+    count_by (λ p. nat_lt (length2 (near_image (box_of d) p.0.x p.1.x)) ((unsigned_abs s.cutoff + unsigned_abs DEFAULT_SKIN) * (unsigned_abs s.cutoff + unsigned_abs DEFAULT_SKIN))) (half (atoms_of d))
 
 -- a text of the log: a piece under the log's name, then one for the screen
 abbrev pub log_text : Bool → List ℕ → List Piece
@@ -95,17 +99,24 @@ numbers_of s d =
     ∷ record { keyword = codes "epair"; value = pair }
     ∷ record { keyword = codes "emol"; value = molecular }
     ∷ record { keyword = codes "etotal"; value = pair +ℤ molecular +ℤ kinetic_share (pos 0) 2 }
-    ∷ record { keyword = codes "press"; value = pressure (pos 0) (pair_virial s d) d.sides }
+    ∷ record { keyword = codes "press"; value = pressure (pos 0) (pair_virial s d) (box_of d) }
     ∷ []
 
--- the line of a fault at a step
+-- the names of the phase and the kind of a fault
 abbrev pub phase_name : ℕ → List ℕ
-phase_name p = cond (p == 1) (codes "drift") (cond (p == 2) (codes "forces") (codes "kick"))
+phase_name p =
+    cond (p == phase_number Drift) (codes "drift") (cond (p == phase_number Forces) (codes "forces") (codes "kick"))
 
 abbrev pub kind_name : ℕ → List ℕ
 kind_name k =
-    cond (k == 1) (codes "Close") (cond (k == 2) (codes "Bond") (cond (k == 3) (codes "Angle") (cond (k == 4) (codes "Force") (cond (k == 5) (codes "Speed") (cond (k == 6) (codes "Lost") (codes "Image"))))))
+    cond (k == kind_number fault.Close) (codes "Close")
+      (cond (k == kind_number fault.Bond) (codes "Bond")
+        (cond (k == kind_number fault.Angle) (codes "Angle")
+          (cond (k == kind_number fault.Force) (codes "Force")
+            (cond (k == kind_number fault.Speed) (codes "Speed")
+              (cond (k == kind_number fault.Lost) (codes "Lost") (codes "Image"))))))
 
+-- the line of a fault at a step
 unfoldable pub fault_text : FaultKey → ℕ → List ℕ
 fault_text k step =
     codes "ERROR: " ++ kind_name k.kind ++ 32 ∷ decimal k.a ++ 32 ∷ decimal k.b ++ codes " in " ++ phase_name k.phase ++ codes " at step " ++ decimal step ++ 10 ∷ []
@@ -121,10 +132,10 @@ run_with s d None = record {
 abbrev pub run_of : Script → Data → Run
 run_of s d = run_with s d (least_key (keys_of s d))
 
--- the bytes that a fetch gives: those of a file that is there and has at most 2^28
-abbrev pub fetched : Option (List ℕ) → Option (List ℕ)
-fetched None = None
-fetched (Some bytes) = cond (nat_le (length bytes) (2 ^ 28)) (Some bytes) None
+-- the bytes under a name, if there are any and at most so many
+abbrev pub up_to : ℕ → Option (List ℕ) → Option (List ℕ)
+up_to limit None = None
+up_to limit (Some bytes) = cond (nat_le (length bytes) limit) (Some bytes) None
 
 -- nothing is written, and the run ends so
 abbrev pub ends_at_once : Status → Run
@@ -140,7 +151,7 @@ run_file s (Some text) = run_data s (data_of s.cutoff text)
 run_file s None = ends_at_once NotBuilt
 
 abbrev pub run_script : List File → Option Script → Run
-run_script files (Some s) = run_file s (fetched (content files s.input))
+run_script files (Some s) = run_file s (up_to MAX_FETCHED (content files s.input))
 run_script files None = ends_at_once NotBuilt
 
 abbrev pub run_text : List File → Option (List ℕ) → Run
@@ -148,7 +159,7 @@ run_text files (Some text) = run_script files (script_of text)
 run_text files None = ends_at_once NotBuilt
 
 abbrev pub run_name : List File → Result (List ℕ) ℕ → Run
-run_name files (Ok name) = run_text files (fetched (content files name))
+run_name files (Ok name) = run_text files (up_to MAX_SCRIPT_BYTES (content files name))
 run_name files (Err place) = ends_at_once (Usage place)
 
 -- the serial meaning of the words over the files of a shelf

@@ -3,14 +3,20 @@
 #![tactic(auto)]
 
 mod atoms;
+mod displacement;
 mod fault;
 pub mod limits;
 mod sim_box;
 mod styles;
 mod term;
 
-pub use atoms::{Angle, Angles, Atom, Atoms, Bond, Bonds, Ids, Masses, Points, Site, Sites, System};
-pub use fault::{FaultKey, FaultKind, FaultPhase};
+pub use atoms::{
+    Angle, Angles, Atom, Atoms, Bond, Bonds, Ids, Masses, Points, Site, Sites, System,
+};
+pub use displacement::{
+    length2, nearest_image_is_odd, nearest_image_is_the_shortest, opposite_lengths_are_equal,
+};
+pub use fault::{FaultKey, FaultKind, FaultPhase, NO_FAULT, words_order_keys};
 pub use sim_box::{Axis, BoxRefusal, Extent, Sides, SimBox};
 pub use styles::{AtomStyle, LatticeStyle, Mix};
 pub use term::Term;

@@ -1,5 +1,5 @@
 -- Worked texts of thermo output.
-use Rattle.std.proofs.Common.{◌≡◌, ◌++◌, ◌∷◌, [], ℕ, ℤ, List, pos, neg_ℤ, refl}
+use Rattle.std.proofs.Common.{◌≡◌, ◌∷◌, [], List, pos, neg_ℤ, refl}
 use Rattle.std.specs.Prelude.{codes}
 use Rattle.std.specs.Fmt.{digits}
 use Rattle.fx_num.specs.declared.numbers.Number.{Number}

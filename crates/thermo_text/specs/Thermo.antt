@@ -1,7 +1,7 @@
 -- Thermo output. A header names the columns, a line gives their numbers, a footer ends a run.
 --
 -- Cells are parted by one space and set right: whole numbers in 10 places, fixed numbers in 20; a longer one takes what it needs. Each text is one line, with its line feed.
-use Rattle.std.specs.Prelude.{◌+◌, ◌-◌, Bool, true, false, cond, ℕ, ℤ, pos, List, [], ◌∷◌, ◌++◌, length, map, replicate, unwrap_or, codes}
+use Rattle.std.specs.Prelude.{◌-◌, ◌^◌, ◌≤◌, ◌==◌, Bool, true, false, cond, ℕ, ℤ, pos, List, [], ◌∷◌, ◌++◌, length, map, replicate, unwrap_or, codes, unsigned_abs, All, IsSomeAnd}
 use Rattle.std.specs.Fmt.{decimal, signed_decimal}
 use Rattle.std.specs.List.{join_with_byte}
 use Rattle.fx_num.specs.declared.numbers.Number.{Number}
@@ -72,16 +72,35 @@ number_text k v = cond (is_whole k) (signed_decimal v) (fix_text v)
 abbrev pub number_of : List Number → Keyword → ℤ
 number_of numbers k = unwrap_or (value_under numbers (keyword_text k)) (pos 0)
 
+-- what parts the cell at a place, counted from 0, from those before it
+abbrev pub separator_at : ℕ → List ℕ
+separator_at place = cond (place == 0) [] (32 ∷ [])
+
 -- cells as one line
 abbrev pub row_text : List (List ℕ) → List ℕ
 row_text cells = join_with_byte 32 cells ++ 10 ∷ []
 
+-- a column's cell in the header
+abbrev pub name_cell : Keyword → List ℕ
+name_cell k = padded (width_of k) (column_name k)
+
+-- a column's cell in a line
+abbrev pub number_cell : List Number → Keyword → List ℕ
+number_cell numbers k = padded (width_of k) (number_text k (number_of numbers k))
+
 unfoldable pub header_text : List Keyword → List ℕ
-header_text columns = row_text (map (λ k. padded (width_of k) (column_name k)) columns)
+header_text columns = row_text (map name_cell columns)
+
+-- the numbers have one under the keyword, of magnitude at most 2^98
+abbrev pub HasNumber : List Number → Keyword → Type 0
+HasNumber numbers k = IsSomeAnd (value_under numbers (keyword_text k)) (λ v. unsigned_abs v ≤ 2 ^ 98)
 
 -- every column has its number
+abbrev pub HasEachNumber : List Number → List Keyword → Type 0
+HasEachNumber numbers columns = All (HasNumber numbers) columns
+
 unfoldable pub line_text : List Keyword → List Number → List ℕ
-line_text columns numbers = row_text (map (λ k. padded (width_of k) (number_text k (number_of numbers k))) columns)
+line_text columns numbers = row_text (map (number_cell numbers) columns)
 
 -- how many pairs of atoms were nearer than the greatest cutoff and the skin at the last build, and how many builds the run made after its set-up
 unfoldable pub footer_text : ℕ → ℕ → List ℕ

@@ -1,0 +1,7 @@
+use Rattle.std.proofs.Common.{◌≡◌, map, take}
+use Rattle.std.specs.List.{join_with_byte}
+use Rattle.thermo_text.specs.Thermo.{number_cell}
+use Rattle.thermo_text.proofs.rows.line.Given as goal
+
+abbrev pub invariant-loop-place : goal.invariant-loop-place
+invariant-loop-place l = l.row ≡ join_with_byte 32 (map (number_cell l.numbers) (take l.place l.columns))

@@ -1,3 +1,4 @@
 pub mod Decimal
+pub mod Numbers
 pub mod Print
 pub mod Rounding

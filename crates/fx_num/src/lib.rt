@@ -7,11 +7,13 @@
 
 mod decimal;
 mod memory;
+mod numbers;
 mod rounding;
 mod text;
 
 pub use decimal::{MAX_UNITS, NumError, decimal_text_form, read_decimal, read_whole};
 pub use memory::NoMemory;
+pub use numbers::{Number, Numbers};
 pub use rounding::{nearest, nearest_shift, rdiv, rounding_is_odd, rounding_is_the_nearest, rsh};
 pub use text::Text;
 

@@ -1,0 +1,94 @@
+//! Numbers by keyword, as formulas and thermo output read them.
+ghost use Rattle.std.specs.Prelude.{◌≡◌, [], ◌∷◌, ◌++◌, OnErr, OnOk};
+ghost use Rattle.fx_num.specs.Numbers.{number_with};
+
+use crate::memory::NoMemory;
+use crate::text::Text;
+use std::alloc::Global;
+use std::marker::Model;
+
+/// A number with its keyword.
+#[derive(Drop)]
+pub struct Number {
+    /// What the number is of, as `temp` or `step`.
+    pub keyword: Text,
+    /// The number: in units of 2^-24, or a count where the keyword names one.
+    pub value: i128,
+}
+
+/// Numbers by keyword, in the order in which they were pushed. Contracts see just the list.
+#[derive(Drop)]
+pub struct Numbers {
+    items: Vec<Number>,
+}
+
+impl Model for Numbers {
+    ghost use Rattle.std.specs.Prelude.{List};
+    ghost use Rattle.fx_num.specs.declared.numbers.Number.{Number};
+
+    ghost Value = { List Number };
+
+    ghost view = { λ n. n.items.items };
+}
+
+impl Numbers {
+    /// No numbers.
+    pub fn new(alloc: Global) -> Numbers
+        ensures { result ≡ [] }
+    {
+        Numbers {
+            items: Vec::new(alloc),
+        }
+    }
+
+    /// Puts a number behind the others. A refusal leaves the numbers as they were.
+    ///
+    /// # Errors
+    ///
+    /// `NoMemory` where the allocator refuses.
+    pub fn push(&mut self, keyword: Text, value: i128) -> Result<(), NoMemory>
+        ensures pushed { OnOk result
+            (self.new ≡ self.old ++ record { keyword = keyword; value = value } ∷ []) }
+        ensures unchanged { OnErr result (self.new ≡ self.old) }
+    {
+        self.items.push(Number { keyword, value })?;
+        Ok(())
+    }
+
+    /// The first number with this keyword, if there is one.
+    pub fn value_of(&self, keyword: &[u8]) -> Option<i128>
+        ensures { result ≡ number_with self.now keyword.now }
+    {
+        for number in &self.items {
+            if number.keyword.as_bytes() == keyword {
+                return Some(number.value);
+            }
+        }
+        None
+    }
+
+    /// The numbers, in order.
+    pub fn as_slice(&self) -> &[Number]
+        ensures { result.now ≡ self.now }
+    {
+        &self.items
+    }
+}
+
+#[cfg(test)]
+mod tests {
+    use super::*;
+
+    #[test]
+    fn finds_the_first_number_with_a_keyword(rt: HostRuntime) -> Result<(), NoMemory> {
+        let mut numbers = Numbers::new(rt.alloc());
+        numbers.push(Text::from_bytes(rt.alloc(), b"temp")?, 24159191)?;
+        numbers.push(Text::from_bytes(rt.alloc(), b"step")?, -7)?;
+        numbers.push(Text::from_bytes(rt.alloc(), b"temp")?, 1)?;
+        assert_eq!(rt; numbers.value_of(b"temp"), Some(24159191));
+        assert_eq!(rt; numbers.value_of(b"step"), Some(-7));
+        assert_eq!(rt; numbers.value_of(b"tem"), None);
+        assert_eq!(rt; numbers.as_slice().len(), 3);
+        Ok(())
+    }
+}

@@ -381,3 +381,48 @@ pub fn decimal_text_form()
     ensures refusal { (text : List ℕ) → (read_number text ≡ Err NotNumber)
         ↔ ((d : Decimal) → IsDecimalText text d → ⊥) }
 {}
+
+#[cfg(test)]
+mod tests {
+    use super::*;
+
+    #[test]
+    fn reads_decimal_texts(rt: HostRuntime) {
+        let rows = [
+            ("0.8442", Ok(14163326)),
+            ("-0.5", Ok(-8388608)),
+            ("+007.250", Ok(121634816)),
+            ("99.99", Ok(1677553828)),
+            ("3e-7", Ok(5)),
+            ("6.02E5", Ok(10099884032000)),
+            ("-1e11", Ok(-1677721600000000000)),
+            ("1.00000002980232238769531", Ok(16777216)),
+            ("1.00000002980232238769532", Ok(16777217)),
+            ("1.000000029802322387695313", Err(NumError::TooManyDigits)),
+            ("3e11", Err(NumError::OutOfRange)),
+            ("1-", Err(NumError::NotNumber)),
+            ("--1", Err(NumError::NotNumber)),
+            ("1e+", Err(NumError::NotNumber)),
+            ("0x10", Err(NumError::NotNumber)),
+        ];
+        for (text, want) in rows {
+            assert_eq!(rt; read_decimal(text.as_bytes()), want, "{text}");
+        }
+    }
+
+    #[test]
+    fn reads_whole_numbers(rt: HostRuntime) {
+        let rows = [
+            ("0", Ok(0)),
+            ("007", Ok(7)),
+            ("87287", Ok(87287)),
+            ("1000000000000000000", Ok(1000000000000000000)),
+            ("10000000000000000000", Err(NumError::TooManyDigits)),
+            ("-1", Err(NumError::NotNumber)),
+            ("12a", Err(NumError::NotNumber)),
+        ];
+        for (text, want) in rows {
+            assert_eq!(rt; read_whole(text.as_bytes()), want, "{text}");
+        }
+    }
+}

@@ -59,7 +59,7 @@ pub total_step : {X : Type 0} (f : X → ℤ) (xs : List X) (i : ℕ) (d : X) (s
 total_step f xs i d sum r lt so here = omega (arith, ints, total_more f xs i d lt)
 
 -- a sum of signed numbers is a difference of two sums of natural numbers
-total-parts : {X : Type 0} (f : X → ℤ) (xs : List X) → total f xs +ℤ pos (sum_by (λ x. down (f x)) xs) ≡ pos (sum_by (λ x. up (f x)) xs)
+pub total-parts : {X : Type 0} (f : X → ℤ) (xs : List X) → total f xs +ℤ pos (sum_by (λ x. down (f x)) xs) ≡ pos (sum_by (λ x. up (f x)) xs)
 total-parts f [] = omega (arith, ints)
 total-parts f (x ∷ xs) = omega (arith, ints, total-parts f xs, sum_by-cons (λ x. down (f x)) x xs, sum_by-cons (λ x. up (f x)) x xs)
 

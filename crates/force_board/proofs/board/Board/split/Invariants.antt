@@ -1,0 +1,4 @@
+use Rattle.force_board.proofs.board.Board.split.Given as goal
+
+abbrev pub ghosts-cut : goal.ghosts-cut
+ghosts-cut a = record { number = a.shares }

@@ -1,2 +1,8 @@
-//! Thermodynamic quantities: temperature, pressure, and energies as they are shown.
+//! Thermodynamic quantities: pressure, and energies as they are shown.
 #![tactic(auto)]
+
+mod energy;
+mod pressure;
+
+pub use energy::share;
+pub use pressure::press;

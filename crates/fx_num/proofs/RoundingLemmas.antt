@@ -1,11 +1,11 @@
 -- What the crates above cite of rounding: it exists, it is unique, it is odd, and how large it is.
-use Rattle.std.proofs.Common.{◌≡◌, ◌+◌, ◌-◌, ◌*◌, ◌/◌, ◌%◌, ◌^◌, ◌<◌, ◌≤◌, Bool, true, false, ℕ, ℤ, zero, suc, pos, negsuc, neg_ℤ, ◌-ℤ◌, ◌*ℤ◌, ◌+ℤ◌, ◌<ℤ◌, unsigned_abs, arith, refl, sym, ap, ◌∙◌, subst}
+use Rattle.std.proofs.Common.{◌≡◌, ◌+◌, ◌-◌, ◌*◌, ◌/◌, ◌%◌, ◌^◌, ◌<◌, ◌≤◌, true, false, ℕ, ℤ, zero, suc, pos, negsuc, neg_ℤ, ◌-ℤ◌, ◌*ℤ◌, ◌+ℤ◌, ◌<ℤ◌, unsigned_abs, arith, refl, sym, ap, ◌∙◌, subst}
 use Rattle.std.specs.Int.{is_negative}
 use Rattle.std.proofs.lemmas.Int.{ints}
 use Rattle.std.proofs.lemmas.Nat.{mul-le, pow_pos, one_shl, pow_below}
 use Rattle.std.proofs.Math.IntN.{neg_ℤ-neg_ℤ, zero-*ℤ}
-use Rattle.std.proofs.Math.Nat.{div-mul-le_self, lt-div-mul-add, mul_assoc, pow-suc}
-use Rattle.fx_num.specs.Rounding.{nearest_of, with_sign, div_rounded, shr_rounded, RoundsTo, IsNearest}
+use Rattle.std.proofs.Math.Nat.{div-mul-le_self, lt-div-mul-add, pow-suc}
+use Rattle.fx_num.specs.Rounding.{nearest_of, with_sign, div_rounded, RoundsTo, IsNearest}
 
 -- there is one, for a divisor above 0
 pub nearest_rounds : (n d : ℕ) → 0 < d → RoundsTo n d (nearest_of n d)

@@ -1,5 +1,5 @@
 -- Rounding to the nearest whole number, ties away from zero.
-use Rattle.std.specs.Prelude.{◌≡◌, ◌+◌, ◌*◌, ◌/◌, ◌^◌, ◌<◌, ◌≤◌, Bool, true, false, ℕ, ℤ, pos, negsuc, suc, neg_ℤ, ◌-ℤ◌, ◌*ℤ◌, unsigned_abs}
+use Rattle.std.specs.Prelude.{◌+◌, ◌*◌, ◌/◌, ◌^◌, ◌<◌, ◌≤◌, Bool, true, false, ℕ, ℤ, pos, negsuc, suc, neg_ℤ, ◌-ℤ◌, ◌*ℤ◌, unsigned_abs}
 
 -- over magnitudes: q is nearest to n/d, a tie upwards
 pub record RoundsTo (n d q : ℕ) : Type 0 where

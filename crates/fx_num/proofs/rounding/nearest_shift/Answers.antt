@@ -1,7 +1,5 @@
-use Rattle.std.proofs.Common.{◌≡◌, ◌+◌, ◌-◌, ◌*◌, ◌/◌, ◌%◌, ◌^◌, ◌<◌, ◌≤◌, ℕ, ℤ, suc, pos, neg_ℤ, ◌<ℤ◌, unsigned_abs, FitsSigned, Fits, to_z, of_z, arith, rules, refl, sym, ap, ◌∙◌}
-use Rattle.std.proofs.lemmas.Int.{ints, to_z-of_z, fits_signed_from_abs}
-use Rattle.std.proofs.lemmas.Nat.{pow_below, pow_pos}
-use Rattle.std.specs.Int.{is_negative, w128}
+use Rattle.std.proofs.Common.{◌≡◌, ◌*◌, ◌^◌, ℕ, arith, sym, ap, ◌∙◌}
+use Rattle.std.proofs.lemmas.Nat.{pow_pos}
 use Rattle.fx_num.specs.Rounding.{nearest_of}
 use Rattle.fx_num.proofs.RoundingLemmas.{nearest_of-shift, nearest_of-mul, nearest_of-le_self, half_small}
 use Rattle.fx_num.proofs.rounding.nearest_shift.Goals as goal

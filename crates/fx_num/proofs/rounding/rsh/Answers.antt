@@ -1,8 +1,8 @@
-use Rattle.std.proofs.Common.{◌≡◌, ◌+◌, ◌-◌, ◌*◌, ◌/◌, ◌%◌, ◌^◌, ◌<◌, ◌≤◌, ℕ, ℤ, suc, pos, neg_ℤ, ◌<ℤ◌, unsigned_abs, FitsSigned, Fits, to_z, of_z, arith, rules, refl, sym, ap, ◌∙◌}
-use Rattle.std.proofs.lemmas.Int.{ints, to_z-of_z, fits_signed_from_abs}
-use Rattle.std.proofs.lemmas.Nat.{pow_below, pow_pos}
+use Rattle.std.proofs.Common.{◌≡◌, ◌^◌, pos, unsigned_abs, FitsSigned, to_z, of_z, arith, rules, ap, ◌∙◌}
+use Rattle.std.proofs.lemmas.Int.{ints, to_z-of_z}
+use Rattle.std.proofs.lemmas.Nat.{pow_pos}
 use Rattle.std.specs.Int.{is_negative, w128}
-use Rattle.fx_num.specs.Rounding.{div_rounded, nearest_of, with_sign, IsNearest}
+use Rattle.fx_num.specs.Rounding.{div_rounded, nearest_of, with_sign}
 use Rattle.fx_num.proofs.RoundingLemmas.{div_rounded-signed, div_rounded_nearest}
 use Rattle.fx_num.proofs.rounding.rsh.Goals as goal
 

@@ -1,6 +1,7 @@
 //! Pieces that are written to files of the program's folder, or to the standard output.
-ghost use Rattle.std.specs.Prelude.{◌≡◌, ◌≤◌, IsTrue, None, not};
+ghost use Rattle.std.specs.Prelude.{◌≡◌, ◌≤◌, ◌↔◌, IsTrue, None, not};
 ghost use Rattle.std.specs.Fs.{asks_append, asks_create, asks_truncate, IsValidOptions};
+ghost use Rattle.std.specs.IoError.{error_kind};
 ghost use Rattle.outside_real.specs.Counts.{put_faults_after};
 
 use fx_num::Text;
@@ -110,7 +111,9 @@ fn write_whole(to: &mut impl Write, bytes: &[u8]) -> Result<(), PutRefusal> {
 }
 
 /// What a failure to open a file means. Nothing was written then.
-fn refusal_of(error: &io::Error) -> PutRefusal {
+fn refusal_of(error: &io::Error) -> PutRefusal
+    ensures { (result ≡ PutRefusal.NoMemory) ↔ (error_kind error.now ≡ ErrorKind.OutOfMemory) }
+{
     match error.kind() {
         ErrorKind::OutOfMemory => PutRefusal::NoMemory,
         _ => PutRefusal::Faulted,

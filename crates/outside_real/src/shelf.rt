@@ -1,5 +1,6 @@
 //! Files that are read by name in the program's folder.
-ghost use Rattle.std.specs.Prelude.{◌≡◌, ◌≤◌, None, Err, IfOk, IfErr, length};
+ghost use Rattle.std.specs.Prelude.{◌≡◌, ◌≤◌, ◌↔◌, None, Err, IfOk, IfErr, length};
+ghost use Rattle.std.specs.IoError.{error_kind};
 ghost use Rattle.outside.specs.Stock.{IsAbove};
 ghost use Rattle.outside.specs.declared.shelf.TheConstants.{MAX_FETCHED};
 ghost use Rattle.outside_real.specs.Counts.{shelf_counts_after};
@@ -152,7 +153,9 @@ fn length_of(file: &impl OpenFile, read: u64) -> u64
 
 /// What a failure to open or to read a file means.
 fn refusal_of(error: &io::Error) -> FetchRefusal
-    ensures { IsAbove result }
+    ensures missing { (result ≡ FetchRefusal.Missing) ↔ (error_kind error.now ≡ ErrorKind.NotFound) }
+    ensures no_memory { (result ≡ FetchRefusal.NoMemory) ↔ (error_kind error.now ≡ ErrorKind.OutOfMemory) }
+    ensures above_limit { IsAbove result }
 {
     match error.kind() {
         ErrorKind::NotFound => FetchRefusal::Missing,

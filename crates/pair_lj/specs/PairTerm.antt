@@ -12,6 +12,10 @@ use Rattle.box_geo.specs.declared.term.Term.{Term}
 use Rattle.box_geo.specs.Sides.{x_of, y_of, z_of, length2}
 use Rattle.pair_lj.specs.declared.close.Close.{Close}
 
+-- a displacement with components of magnitudes below 2^34
+abbrev pub IsDisplacement : List ℤ → Type 0
+IsDisplacement d = (unsigned_abs (x_of d) < 2 ^ 34) × (unsigned_abs (y_of d) < 2 ^ 34) × (unsigned_abs (z_of d) < 2 ^ 34)
+
 -- w: the square of sigma over that of the distance
 unfoldable pub inverse_square : ℕ → ℕ → ℕ
 inverse_square sigma r2 = nearest_of (sigma * sigma * 2 ^ 32) r2
@@ -74,3 +78,17 @@ pair_term eps sigma cut base weight d =
       (cond (is_too_near sigma (length2 d)) (Err record { })
         (cond (is_too_strong (force_along (strength eps sigma (length2 d)) d)) (Err record { })
           (Ok (Some (weighted_term (strength eps sigma (length2 d)) (energy_at eps sigma (length2 d) -ℤ base) weight d)))))
+
+-- one vector is the negative of the other
+abbrev pub IsOpposite : List ℤ → List ℤ → Type 0
+IsOpposite d e = (x_of e ≡ neg_ℤ (x_of d)) × (y_of e ≡ neg_ℤ (y_of d)) × (z_of e ≡ neg_ℤ (z_of d))
+
+-- the outcomes are of one kind; of two terms the forces are opposite, the energies and virials equal
+abbrev pub AreOpposite : Result (Option Term) Close → Result (Option Term) Close → Type 0
+AreOpposite (Ok None) (Ok None) = Unit {0}
+AreOpposite (Ok (Some s)) (Ok (Some t)) = IsOpposite s.f t.f × (t.energy ≡ s.energy) × (t.virial ≡ s.virial)
+AreOpposite (Err c) (Err e) = Unit {0}
+AreOpposite (Ok None) (Ok (Some t)) = ⊥
+AreOpposite (Ok (Some s)) (Ok None) = ⊥
+AreOpposite (Ok o) (Err e) = ⊥
+AreOpposite (Err c) (Ok o) = ⊥

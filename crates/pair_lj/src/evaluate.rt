@@ -1,8 +1,7 @@
 //! The pair term at a displacement.
 ghost use Rattle.std.specs.Prelude.{◌≡◌, ◌+◌, ◌*◌, ◌^◌, ◌<◌, ◌≤◌, ◌⊎◌, [], ◌∷◌, pos, ◌-ℤ◌, ◌*ℤ◌, unsigned_abs, IfOk, IfSome, MatchBool};
-ghost use Rattle.box_geo.specs.Sides.{x_of, y_of, z_of};
 ghost use Rattle.fx_num.specs.Rounding.{nearest_of, div_rounded, shr_rounded, with_sign};
-ghost use Rattle.pair_lj.specs.PairTerm.{pair_term, force_along, dot, HasModerateForce, IsModerate};
+ghost use Rattle.pair_lj.specs.PairTerm.{pair_term, force_along, dot, HasModerateForce, IsDisplacement, IsModerate};
 
 use crate::close::Close;
 use crate::coefficients::Coefficients;
@@ -17,9 +16,7 @@ const MAX_SQUARE_RATIO: u128 = 1 << 36;
 
 /// The term of atoms i and j at the displacement d from j to i, with a special weight in units.
 pub(crate) fn evaluate(k: Coefficients, d: V3, weight: u64) -> Result<Option<Term>, Close>
-    requires x { unsigned_abs (x_of d) < 2 ^ 34 }
-    requires y { unsigned_abs (y_of d) < 2 ^ 34 }
-    requires z { unsigned_abs (z_of d) < 2 ^ 34 }
+    requires d { IsDisplacement d }
     requires weight { weight ≤ 2 ^ 24 }
     ensures is { result ≡ pair_term k.epsilon k.sigma k.cutoff (pos 0) weight d }
     ensures bounded { IfOk result (λ o. IfSome o HasModerateForce) }

@@ -1,10 +1,10 @@
 -- What the crates above cite of the pair term: it is odd, a whole weight changes nothing, and it is bounded.
-use Rattle.std.proofs.Common.{◌≡◌, ◌+◌, ◌*◌, ◌^◌, ◌<◌, ◌≤◌, ◌||◌, Bool, true, false, cond, nat_lt, nat_le, ℕ, ℤ, zero, suc, pos, negsuc, neg_ℤ, ◌+ℤ◌, ◌-ℤ◌, ◌*ℤ◌, unsigned_abs, Option, Some, None, Result, Ok, Err, IfOk, IfSome, List, [], ◌∷◌, refl, sym, ap, subst, ◌∙◌, arith}
+use Rattle.std.proofs.Common.{◌≡◌, ◌*◌, ◌^◌, ◌≤◌, ◌||◌, Bool, true, false, cond, nat_lt, nat_le, ℕ, ℤ, suc, pos, negsuc, neg_ℤ, ◌+ℤ◌, ◌-ℤ◌, ◌*ℤ◌, unsigned_abs, Option, Some, None, Result, Ok, Err, IfOk, IfSome, List, refl, sym, ap, subst, ◌∙◌, arith}
 use Rattle.std.proofs.Math.IntN.{neg_ℤ-neg_ℤ, *ℤ_comm}
 use Rattle.std.proofs.lemmas.Int.{ints, unsigned_abs-mul}
 use Rattle.std.proofs.lemmas.Nat.{mul-le}
 use Rattle.std.proofs.lemmas.Bool.Decides.{nat_tests}
-use Rattle.fx_num.specs.Rounding.{nearest_of, with_sign, div_rounded, shr_rounded}
+use Rattle.fx_num.specs.Rounding.{nearest_of, shr_rounded}
 use Rattle.fx_num.proofs.RoundingLemmas.{neg_ℤ-*ℤ, div_rounded-neg, unsigned_abs-div_rounded, nearest_of-mul, nearest_of-le}
 use Rattle.box_geo.specs.declared.term.Term.{Term}
 use Rattle.box_geo.specs.Sides.{x_of, y_of, z_of, length2}
@@ -50,8 +50,8 @@ product-opposite x y f g ex ef = ap (λ (v : ℤ). v *ℤ g) ex ∙ ap (λ (v : 
 pub dot-opposite : (d e f g : List ℤ) → IsOpposite d e → IsOpposite f g → dot e g ≡ dot d f
 dot-opposite d e f g h k =
     ap (λ (v : ℤ). v +ℤ y_of e *ℤ y_of g +ℤ z_of e *ℤ z_of g) (product-opposite (x_of d) (x_of e) (x_of f) (x_of g) h.0 k.0)
-      ∙ ap (λ (v : ℤ). x_of d *ℤ x_of f +ℤ v +ℤ z_of e *ℤ z_of g) (product-opposite (y_of d) (y_of e) (y_of f) (y_of g) h.1 k.1)
-      ∙ ap (λ (v : ℤ). x_of d *ℤ x_of f +ℤ y_of d *ℤ y_of f +ℤ v) (product-opposite (z_of d) (z_of e) (z_of f) (z_of g) h.2 k.2)
+    ∙ ap (λ (v : ℤ). x_of d *ℤ x_of f +ℤ v +ℤ z_of e *ℤ z_of g) (product-opposite (y_of d) (y_of e) (y_of f) (y_of g) h.1 k.1)
+    ∙ ap (λ (v : ℤ). x_of d *ℤ x_of f +ℤ y_of d *ℤ y_of f +ℤ v) (product-opposite (z_of d) (z_of e) (z_of f) (z_of g) h.2 k.2)
 
 test_of : (f g : ℤ) → g ≡ neg_ℤ f → nat_lt (2 ^ 42) (unsigned_abs g) ≡ nat_lt (2 ^ 42) (unsigned_abs f)
 test_of f g e = ap (nat_lt (2 ^ 42)) (ap unsigned_abs e ∙ unsigned_abs-neg f)
@@ -59,12 +59,12 @@ test_of f g e = ap (nat_lt (2 ^ 42)) (ap unsigned_abs e ∙ unsigned_abs-neg f)
 is_too_strong-opposite : (f g : List ℤ) → IsOpposite f g → is_too_strong g ≡ is_too_strong f
 is_too_strong-opposite f g h =
     ap (λ (b : Bool). b || nat_lt (2 ^ 42) (unsigned_abs (y_of g)) || nat_lt (2 ^ 42) (unsigned_abs (z_of g))) (test_of (x_of f) (x_of g) h.0)
-      ∙ ap (λ (b : Bool). nat_lt (2 ^ 42) (unsigned_abs (x_of f)) || b || nat_lt (2 ^ 42) (unsigned_abs (z_of g))) (test_of (y_of f) (y_of g) h.1)
-      ∙ ap (λ (b : Bool). nat_lt (2 ^ 42) (unsigned_abs (x_of f)) || nat_lt (2 ^ 42) (unsigned_abs (y_of f)) || b) (test_of (z_of f) (z_of g) h.2)
+    ∙ ap (λ (b : Bool). nat_lt (2 ^ 42) (unsigned_abs (x_of f)) || b || nat_lt (2 ^ 42) (unsigned_abs (z_of g))) (test_of (y_of f) (y_of g) h.1)
+    ∙ ap (λ (b : Bool). nat_lt (2 ^ 42) (unsigned_abs (x_of f)) || nat_lt (2 ^ 42) (unsigned_abs (y_of f)) || b) (test_of (z_of f) (z_of g) h.2)
 
 -- the outcome by its three tests
 abbrev outcome : Bool → Bool → Bool → Term → Result (Option Term) Close
-outcome far near strong t = cond far (Ok None) (cond near (Err record { }) (cond strong (Err record { }) (Ok (Some t))))
+outcome far near strong t = cond far (Ok None) (cond near (Err record {}) (cond strong (Err record {}) (Ok (Some t))))
 
 outcome-opposite : (far near strong : Bool) (s t : Term) → IsOpposite s.f t.f → t.energy ≡ s.energy → t.virial ≡ s.virial → AreOpposite (outcome far near strong s) (outcome far near strong t)
 outcome-opposite true near strong s t f e v = tt
@@ -76,7 +76,7 @@ outcome-opposite false false false s t f e v = (f, e, v)
 abbrev pair_at : ℕ → ℕ → ℕ → ℤ → ℕ → ℕ → List ℤ → Result (Option Term) Close
 pair_at eps sigma cut base weight r2 d =
     outcome (nat_le (cut * cut) r2) (is_too_near sigma r2) (is_too_strong (force_along (strength eps sigma r2) d))
-      (weighted_term (strength eps sigma r2) (energy_at eps sigma r2 -ℤ base) weight d)
+    (weighted_term (strength eps sigma r2) (energy_at eps sigma r2 -ℤ base) weight d)
 
 pair_term_is : (eps sigma cut : ℕ) (base : ℤ) (weight : ℕ) (d : List ℤ) → pair_term eps sigma cut base weight d ≡ pair_at eps sigma cut base weight (length2 d) d
 unfolding pair_term
@@ -159,5 +159,5 @@ pub pair_term-bounded : (eps sigma cut weight : ℕ) (base : ℤ) (d : List ℤ)
 unfolding pair_term weighted_term
 pair_term-bounded eps sigma cut weight base d low =
     outcome-bounded (nat_le (cut * cut) (length2 d)) (is_too_near sigma (length2 d)) (is_too_strong (force_along (strength eps sigma (length2 d)) d))
-      (weighted_term (strength eps sigma (length2 d)) (energy_at eps sigma (length2 d) -ℤ base) weight d)
-      (λ mild. force_along-weighted (strength eps sigma (length2 d)) weight d low mild)
+    (weighted_term (strength eps sigma (length2 d)) (energy_at eps sigma (length2 d) -ℤ base) weight d)
+    (λ mild. force_along-weighted (strength eps sigma (length2 d)) weight d low mild)

@@ -6,7 +6,7 @@
 --   c   = 24 eps (2 s12 - s6) / r2, so that the force on i is c times the displacement
 --   e   = 4 eps (s12 - s6), less the energy at the cutoff where it is shifted
 -- each rounded once. Nothing acts at or beyond the cutoff.
-use Rattle.std.specs.Prelude.{◌≡◌, ◌+◌, ◌*◌, ◌^◌, ◌<◌, ◌≤◌, ◌==◌, ◌||◌, Bool, true, false, cond, nat_lt, nat_le, ℕ, ℤ, pos, neg_ℤ, ◌+ℤ◌, ◌-ℤ◌, ◌*ℤ◌, unsigned_abs, Option, Some, None, Result, Ok, Err, List, [], ◌∷◌}
+use Rattle.std.specs.Prelude.{◌≡◌, ◌*◌, ◌^◌, ◌<◌, ◌≤◌, ◌==◌, ◌||◌, Bool, cond, nat_lt, nat_le, ℕ, ℤ, pos, neg_ℤ, ◌+ℤ◌, ◌-ℤ◌, ◌*ℤ◌, unsigned_abs, Option, Some, None, Result, Ok, Err, List, [], ◌∷◌}
 use Rattle.fx_num.specs.Rounding.{nearest_of, div_rounded, shr_rounded}
 use Rattle.box_geo.specs.declared.term.Term.{Term}
 use Rattle.box_geo.specs.Sides.{x_of, y_of, z_of, length2}
@@ -75,9 +75,9 @@ weighted_term c e weight d =
 unfoldable pub pair_term : ℕ → ℕ → ℕ → ℤ → ℕ → List ℤ → Result (Option Term) Close
 pair_term eps sigma cut base weight d =
     cond (nat_le (cut * cut) (length2 d)) (Ok None)
-      (cond (is_too_near sigma (length2 d)) (Err record { })
-        (cond (is_too_strong (force_along (strength eps sigma (length2 d)) d)) (Err record { })
-          (Ok (Some (weighted_term (strength eps sigma (length2 d)) (energy_at eps sigma (length2 d) -ℤ base) weight d)))))
+    (cond (is_too_near sigma (length2 d)) (Err record {})
+    (cond (is_too_strong (force_along (strength eps sigma (length2 d)) d)) (Err record {})
+    (Ok (Some (weighted_term (strength eps sigma (length2 d)) (energy_at eps sigma (length2 d) -ℤ base) weight d)))))
 
 -- one vector is the negative of the other
 abbrev pub IsOpposite : List ℤ → List ℤ → Type 0

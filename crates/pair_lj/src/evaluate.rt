@@ -5,7 +5,9 @@ ghost use Rattle.pair_lj.specs.PairTerm.{pair_term, force_along, dot, HasModerat
 
 use crate::close::Close;
 use crate::coefficients::Coefficients;
-use crate::magnitudes::{cube, distance2, energy_size, square, square_of_sixth, square_ratio, strength_size, weighted};
+use crate::magnitudes::{
+    cube, distance2, energy_size, square, square_of_sixth, square_ratio, strength_size, weighted,
+};
 use crate::signs::{difference, product, product_size, signed, work};
 use box_geo::Term;
 use box_geo::limits::MAX_TERM_FORCE;
@@ -88,10 +90,10 @@ fn is_too_strong(size: u128, a: u64, b: u64, c: u64) -> bool
     requires c { size * c < 2 ^ 126 }
     ensures { MatchBool result
         ((2 ^ 42 < nearest_of (size * a) (2 ^ 32))
-            ⊎ ((2 ^ 42 < nearest_of (size * b) (2 ^ 32)) ⊎ (2 ^ 42 < nearest_of (size * c) (2 ^ 32))))
+        ⊎ ((2 ^ 42 < nearest_of (size * b) (2 ^ 32)) ⊎ (2 ^ 42 < nearest_of (size * c) (2 ^ 32))))
         ((nearest_of (size * a) (2 ^ 32) ≤ 2 ^ 42)
-            × (nearest_of (size * b) (2 ^ 32) ≤ 2 ^ 42)
-            × (nearest_of (size * c) (2 ^ 32) ≤ 2 ^ 42)) }
+        × (nearest_of (size * b) (2 ^ 32) ≤ 2 ^ 42)
+        × (nearest_of (size * c) (2 ^ 32) ≤ 2 ^ 42)) }
 {
     let limit = MAX_TERM_FORCE as u128;
     product_size(size, a) > limit || product_size(size, b) > limit || product_size(size, c) > limit
@@ -113,7 +115,11 @@ fn term(negative: bool, size: u128, energy: i64, x: i64, y: i64, z: i64) -> Term
     ensures virial { result.virial ≡ dot (x ∷ y ∷ z ∷ []) result.f }
     ensures bounded { IsModerate result.f }
 {
-    let (f, g, h) = (product(negative, size, x), product(negative, size, y), product(negative, size, z));
+    let (f, g, h) = (
+        product(negative, size, x),
+        product(negative, size, y),
+        product(negative, size, z),
+    );
     Term {
         f: [f, g, h],
         energy,

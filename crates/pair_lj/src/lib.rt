@@ -8,6 +8,8 @@ mod laws;
 mod magnitudes;
 mod signs;
 mod table;
+#[cfg(test)]
+mod tests;
 mod unset;
 
 pub use close::Close;

@@ -1,13 +1,12 @@
 -- The outcomes of the pair term, one lemma for each.
-use Rattle.std.proofs.Common.{◌≡◌, ◌+◌, ◌*◌, ◌^◌, ◌<◌, ◌≤◌, ◌==◌, ◌||◌, Bool, true, false, cond, nat_lt, nat_le, ℕ, ℤ, zero, suc, pos, ◌-ℤ◌, ◌*ℤ◌, unsigned_abs, to_z, of_z, w64, FitsSigned, Option, Some, None, Result, Ok, Err, List, [], ◌∷◌, ◌⊎◌, inl, inr, refl, sym, ap, subst, ◌∙◌, arith}
+use Rattle.std.proofs.Common.{◌≡◌, ◌+◌, ◌*◌, ◌^◌, ◌<◌, ◌≤◌, ◌||◌, Bool, true, false, nat_lt, nat_le, ℕ, ℤ, zero, suc, pos, ◌-ℤ◌, ◌*ℤ◌, unsigned_abs, to_z, of_z, w64, FitsSigned, Some, None, Ok, Err, List, [], ◌∷◌, ◌⊎◌, inl, inr, refl, sym, ap, ◌∙◌, arith}
 use Rattle.std.proofs.lemmas.Int.{ints, to_z-of_z}
 use Rattle.std.proofs.lemmas.Bool.Decides.{nat_tests}
 use Rattle.std.proofs.lemmas.Nat.{mul-le}
 use Rattle.fx_num.specs.Rounding.{nearest_of, with_sign, div_rounded, shr_rounded, RoundsTo}
-use Rattle.fx_num.proofs.RoundingLemmas.{nearest_rounds, nearest_of-le}
+use Rattle.fx_num.proofs.RoundingLemmas.{nearest_rounds}
 use Rattle.box_geo.specs.declared.term.Term.{Term}
-use Rattle.box_geo.specs.Sides.{x_of, y_of, z_of, length2}
-use Rattle.pair_lj.specs.declared.close.Close.{Close}
+use Rattle.box_geo.specs.Sides.{length2}
 use Rattle.pair_lj.specs.PairTerm.{inverse_square, sixth_power, twelfth_power, strength, energy_at, force_along, dot, is_too_near, is_too_strong, weighted_term, pair_term}
 use Rattle.pair_lj.proofs.SignLemmas.{unsigned_abs-product, weighted_is}
 
@@ -26,19 +25,19 @@ ratio_true sigma r2 apart near = grind (arith, nat_tests)
 pub near_false : (sigma r2 : ℕ) → 0 < r2 → inverse_square sigma r2 ≤ 2 ^ 36 → is_too_near sigma r2 ≡ false
 near_false sigma r2 apart wide = grind (arith, nat_tests)
 
-too_near : (eps sigma cut : ℕ) (base : ℤ) (weight : ℕ) (d : List ℤ) → length2 d < cut * cut → is_too_near sigma (length2 d) ≡ true → pair_term eps sigma cut base weight d ≡ Err record { }
+too_near : (eps sigma cut : ℕ) (base : ℤ) (weight : ℕ) (d : List ℤ) → length2 d < cut * cut → is_too_near sigma (length2 d) ≡ true → pair_term eps sigma cut base weight d ≡ Err record {}
 unfolding pair_term
 too_near eps sigma cut base weight d inside near =
     let e : nat_le (cut * cut) (length2 d) ≡ false = grind (arith, nat_tests) in
     rw (e, near) refl
 
-pub touching : (eps sigma cut : ℕ) (base : ℤ) (weight : ℕ) (d : List ℤ) → length2 d < cut * cut → length2 d ≡ 0 → pair_term eps sigma cut base weight d ≡ Err record { }
+pub touching : (eps sigma cut : ℕ) (base : ℤ) (weight : ℕ) (d : List ℤ) → length2 d < cut * cut → length2 d ≡ 0 → pair_term eps sigma cut base weight d ≡ Err record {}
 touching eps sigma cut base weight d inside zero_is = too_near eps sigma cut base weight d inside (near_true sigma (length2 d) zero_is)
 
-pub near : (eps sigma cut : ℕ) (base : ℤ) (weight : ℕ) (d : List ℤ) → length2 d < cut * cut → 0 < length2 d → 2 ^ 36 < inverse_square sigma (length2 d) → pair_term eps sigma cut base weight d ≡ Err record { }
+pub near : (eps sigma cut : ℕ) (base : ℤ) (weight : ℕ) (d : List ℤ) → length2 d < cut * cut → 0 < length2 d → 2 ^ 36 < inverse_square sigma (length2 d) → pair_term eps sigma cut base weight d ≡ Err record {}
 near eps sigma cut base weight d inside apart ratio = too_near eps sigma cut base weight d inside (ratio_true sigma (length2 d) apart ratio)
 
-pub too_strong : (eps sigma cut : ℕ) (base : ℤ) (weight : ℕ) (d : List ℤ) → length2 d < cut * cut → is_too_near sigma (length2 d) ≡ false → is_too_strong (force_along (strength eps sigma (length2 d)) d) ≡ true → pair_term eps sigma cut base weight d ≡ Err record { }
+pub too_strong : (eps sigma cut : ℕ) (base : ℤ) (weight : ℕ) (d : List ℤ) → length2 d < cut * cut → is_too_near sigma (length2 d) ≡ false → is_too_strong (force_along (strength eps sigma (length2 d)) d) ≡ true → pair_term eps sigma cut base weight d ≡ Err record {}
 unfolding pair_term
 too_strong eps sigma cut base weight d inside wide strong =
     let e : nat_le (cut * cut) (length2 d) ≡ false = grind (arith, nat_tests) in
@@ -57,8 +56,8 @@ read_abs m x fits e = e ∙ ap unsigned_abs (to_z-of_z w64 x fits)
 pub read_r2 : (r2 a b c : ℕ) (x y z : ℤ) → r2 ≡ a * a + b * b + c * c → a ≡ unsigned_abs x → b ≡ unsigned_abs y → c ≡ unsigned_abs z → r2 ≡ length2 (x ∷ y ∷ z ∷ [])
 read_r2 r2 a b c x y z r ea eb ec =
     r ∙ ap (λ (n : ℕ). n * n + b * b + c * c) ea
-      ∙ ap (λ (n : ℕ). unsigned_abs x * unsigned_abs x + n * n + c * c) eb
-      ∙ ap (λ (n : ℕ). unsigned_abs x * unsigned_abs x + unsigned_abs y * unsigned_abs y + n * n) ec
+    ∙ ap (λ (n : ℕ). unsigned_abs x * unsigned_abs x + n * n + c * c) eb
+    ∙ ap (λ (n : ℕ). unsigned_abs x * unsigned_abs x + unsigned_abs y * unsigned_abs y + n * n) ec
 
 pub outside : (s r2 k l : ℕ) → s ≡ k * k → r2 ≡ l → s ≤ r2 → k * k ≤ l
 outside s r2 k l es er h = omega arith
@@ -85,14 +84,14 @@ pub read_strength : (v : ℤ) (eps sigma s t r2 l : ℕ) → v ≡ div_rounded (
 unfolding strength
 read_strength v eps sigma s t r2 l e es et er =
     e ∙ ap (λ (n : ℕ). div_rounded (pos (24 * eps) *ℤ (pos (2 * n) -ℤ pos s) *ℤ pos (2 ^ 24)) (pos r2)) et
-      ∙ ap (λ (n : ℕ). div_rounded (pos (24 * eps) *ℤ (pos (2 * twelfth_power sigma l) -ℤ pos n) *ℤ pos (2 ^ 24)) (pos r2)) es
-      ∙ ap (λ (n : ℕ). div_rounded (pos (24 * eps) *ℤ (pos (2 * twelfth_power sigma l) -ℤ pos (sixth_power sigma l)) *ℤ pos (2 ^ 24)) (pos n)) er
+    ∙ ap (λ (n : ℕ). div_rounded (pos (24 * eps) *ℤ (pos (2 * twelfth_power sigma l) -ℤ pos n) *ℤ pos (2 ^ 24)) (pos r2)) es
+    ∙ ap (λ (n : ℕ). div_rounded (pos (24 * eps) *ℤ (pos (2 * twelfth_power sigma l) -ℤ pos (sixth_power sigma l)) *ℤ pos (2 ^ 24)) (pos n)) er
 
 pub read_energy : (v : ℤ) (eps sigma s t l weight : ℕ) → v ≡ shr_rounded (shr_rounded (pos (4 * eps) *ℤ (pos t -ℤ pos s)) 32 *ℤ pos weight) 24 → s ≡ sixth_power sigma l → t ≡ twelfth_power sigma l → v ≡ shr_rounded (energy_at eps sigma l *ℤ pos weight) 24
 unfolding energy_at
 read_energy v eps sigma s t l weight e es et =
     e ∙ ap (λ (n : ℕ). shr_rounded (shr_rounded (pos (4 * eps) *ℤ (pos n -ℤ pos s)) 32 *ℤ pos weight) 24) et
-      ∙ ap (λ (n : ℕ). shr_rounded (shr_rounded (pos (4 * eps) *ℤ (pos (twelfth_power sigma l) -ℤ pos n)) 32 *ℤ pos weight) 24) es
+    ∙ ap (λ (n : ℕ). shr_rounded (shr_rounded (pos (4 * eps) *ℤ (pos (twelfth_power sigma l) -ℤ pos n)) 32 *ℤ pos weight) 24) es
 
 -- a strength times a component fits
 part_fits : (s a r2 : ℕ) → a * a ≤ r2 → s * r2 ≤ 2 ^ 120 → s * a < 2 ^ 126
@@ -147,8 +146,8 @@ weighted_moderate t s a v low e mild =
 component_size : (b : Bool) (s a : ℕ) (v x : ℤ) → with_sign b s ≡ v → a ≡ unsigned_abs x → unsigned_abs (shr_rounded (v *ℤ x) 32) ≡ nearest_of (s * a) (2 ^ 32)
 component_size b s a v x ev ea =
     ap (λ (z : ℤ). unsigned_abs (shr_rounded (z *ℤ x) 32)) (sym ev)
-      ∙ unsigned_abs-product b s x (2 ^ 32)
-      ∙ ap (λ (n : ℕ). nearest_of (s * n) (2 ^ 32)) (sym ea)
+    ∙ unsigned_abs-product b s x (2 ^ 32)
+    ∙ ap (λ (n : ℕ). nearest_of (s * n) (2 ^ 32)) (sym ea)
 
 some_great : (m n k l : ℕ) → (l < m) ⊎ ((l < n) ⊎ (l < k)) → (nat_lt l m || nat_lt l n || nat_lt l k) ≡ true
 some_great m n k l (inl h) = grind (arith, nat_tests)
@@ -166,8 +165,8 @@ tests_are : (b : Bool) (s a e g : ℕ) (v x y z : ℤ) → with_sign b s ≡ v �
 unfolding force_along
 tests_are b s a e g v x y z ev ea ee eg =
     ap (λ (n : ℕ). nat_lt (2 ^ 42) n || nat_lt (2 ^ 42) (unsigned_abs (shr_rounded (v *ℤ y) 32)) || nat_lt (2 ^ 42) (unsigned_abs (shr_rounded (v *ℤ z) 32))) (component_size b s a v x ev ea)
-      ∙ ap (λ (n : ℕ). nat_lt (2 ^ 42) (nearest_of (s * a) (2 ^ 32)) || nat_lt (2 ^ 42) n || nat_lt (2 ^ 42) (unsigned_abs (shr_rounded (v *ℤ z) 32))) (component_size b s e v y ev ee)
-      ∙ ap (λ (n : ℕ). nat_lt (2 ^ 42) (nearest_of (s * a) (2 ^ 32)) || nat_lt (2 ^ 42) (nearest_of (s * e) (2 ^ 32)) || nat_lt (2 ^ 42) n) (component_size b s g v z ev eg)
+    ∙ ap (λ (n : ℕ). nat_lt (2 ^ 42) (nearest_of (s * a) (2 ^ 32)) || nat_lt (2 ^ 42) n || nat_lt (2 ^ 42) (unsigned_abs (shr_rounded (v *ℤ z) 32))) (component_size b s e v y ev ee)
+    ∙ ap (λ (n : ℕ). nat_lt (2 ^ 42) (nearest_of (s * a) (2 ^ 32)) || nat_lt (2 ^ 42) (nearest_of (s * e) (2 ^ 32)) || nat_lt (2 ^ 42) n) (component_size b s g v z ev eg)
 
 pub strong_true : (b : Bool) (s a e g : ℕ) (v x y z : ℤ) → with_sign b s ≡ v → a ≡ unsigned_abs x → e ≡ unsigned_abs y → g ≡ unsigned_abs z → (2 ^ 42 < nearest_of (s * a) (2 ^ 32)) ⊎ ((2 ^ 42 < nearest_of (s * e) (2 ^ 32)) ⊎ (2 ^ 42 < nearest_of (s * g) (2 ^ 32))) → is_too_strong (force_along v (x ∷ y ∷ z ∷ [])) ≡ true
 strong_true b s a e g v x y z ev ea ee eg h = tests_are b s a e g v x y z ev ea ee eg ∙ some_great _ _ _ (2 ^ 42) h

@@ -3,3 +3,4 @@ mod Sizes
 mod SignLemmas
 mod PlaceLemmas
 mod Cases
+pub mod PairLemmas

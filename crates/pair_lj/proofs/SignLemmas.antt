@@ -1,5 +1,5 @@
 -- Products and roundings by sign and magnitude.
-use Rattle.std.proofs.Common.{◌≡◌, ◌+◌, ◌-◌, ◌*◌, ◌^◌, ◌<◌, ◌≤◌, Bool, true, false, not, ℕ, ℤ, zero, suc, pos, negsuc, neg_ℤ, ◌+ℤ◌, ◌-ℤ◌, ◌*ℤ◌, unsigned_abs, to_z, of_z, FitsSigned, arith, refl, sym, ap, ◌∙◌}
+use Rattle.std.proofs.Common.{◌≡◌, ◌*◌, ◌^◌, ◌≤◌, Bool, true, false, not, ℕ, ℤ, zero, suc, pos, negsuc, neg_ℤ, ◌+ℤ◌, ◌*ℤ◌, unsigned_abs, to_z, of_z, FitsSigned, arith, refl, sym, ap, ◌∙◌}
 use Rattle.std.specs.Int.{is_negative, w128}
 use Rattle.std.proofs.lemmas.Int.{ints, to_z-of_z, fits_signed_from_abs, unsigned_abs-mul}
 use Rattle.std.proofs.Math.IntN.{neg_ℤ-neg_ℤ}
@@ -29,8 +29,8 @@ mul-with_sign true a (suc g) = refl
 pub strength_is : (b : Bool) (e g k r : ℕ) → div_rounded (pos e *ℤ with_sign b g *ℤ pos k) (pos r) ≡ with_sign b (nearest_of (e * g * k) r)
 strength_is b e g k r =
     ap (λ (z : ℤ). div_rounded (z *ℤ pos k) (pos r)) (mul-with_sign b e g)
-      ∙ ap (λ (z : ℤ). div_rounded z (pos r)) (with_sign-mul b (e * g) k)
-      ∙ div_rounded-with_sign b (e * g * k) r
+    ∙ ap (λ (z : ℤ). div_rounded z (pos r)) (with_sign-mul b (e * g) k)
+    ∙ div_rounded-with_sign b (e * g * k) r
 
 pub energy_is : (b : Bool) (e g k : ℕ) → shr_rounded (pos e *ℤ with_sign b g) k ≡ with_sign b (nearest_of (e * g) (2 ^ k))
 energy_is b e g k = ap (λ (z : ℤ). shr_rounded z k) (mul-with_sign b e g) ∙ div_rounded-with_sign b (e * g) (2 ^ k)
@@ -60,7 +60,7 @@ product_is b t s x d e =
 pub unsigned_abs-product : (b : Bool) (s : ℕ) (x : ℤ) (d : ℕ) → unsigned_abs (div_rounded (with_sign b s *ℤ x) (pos d)) ≡ nearest_of (s * unsigned_abs x) d
 unsigned_abs-product b s x d =
     unsigned_abs-div_rounded (with_sign b s *ℤ x) (pos d)
-      ∙ ap (λ (n : ℕ). nearest_of n d) (unsigned_abs-mul (with_sign b s) x ∙ ap (λ (n : ℕ). n * unsigned_abs x) (unsigned_abs-with_sign b s))
+    ∙ ap (λ (n : ℕ). nearest_of n d) (unsigned_abs-mul (with_sign b s) x ∙ ap (λ (n : ℕ). n * unsigned_abs x) (unsigned_abs-with_sign b s))
 
 -- a sum of three products as code computes it
 pub sum_fits : (a b c : ℤ) → unsigned_abs a ≤ 2 ^ 76 → unsigned_abs b ≤ 2 ^ 76 → unsigned_abs c ≤ 2 ^ 76 → FitsSigned w128 (to_z w128 (of_z w128 (to_z w128 (of_z w128 a) +ℤ to_z w128 (of_z w128 b))) +ℤ to_z w128 (of_z w128 c))

@@ -1,5 +1,5 @@
 -- Bounds of the rounded products of the pair term.
-use Rattle.std.proofs.Common.{◌≡◌, ◌+◌, ◌*◌, ◌^◌, ◌<◌, ◌≤◌, ℕ, arith}
+use Rattle.std.proofs.Common.{◌*◌, ◌^◌, ◌≤◌, ℕ, arith}
 use Rattle.std.proofs.lemmas.Nat.{mul-le}
 use Rattle.fx_num.specs.Rounding.{nearest_of}
 use Rattle.fx_num.proofs.RoundingLemmas.{nearest_of-le}

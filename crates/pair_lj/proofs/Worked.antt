@@ -1,6 +1,6 @@
 -- Worked pairs, from the formulas by hand: eps = sigma = 1, cutoff 2.5, along x.
-use Rattle.std.proofs.Common.{◌≡◌, ◌^◌, ◌*◌, ◌-◌, ℕ, ℤ, pos, neg_ℤ, ◌*ℤ◌, Option, Some, None, Result, Ok, Err, List, [], ◌∷◌, refl}
-use Rattle.fx_num.specs.Rounding.{nearest_of, div_rounded, shr_rounded}
+use Rattle.std.proofs.Common.{◌≡◌, ◌^◌, ◌*◌, ℕ, ℤ, pos, neg_ℤ, Option, Some, None, Result, Ok, Err, List, [], ◌∷◌, refl}
+use Rattle.fx_num.specs.Rounding.{nearest_of, div_rounded}
 use Rattle.box_geo.specs.declared.term.Term.{Term}
 use Rattle.pair_lj.specs.declared.close.Close.{Close}
 use Rattle.pair_lj.specs.PairTerm.{inverse_square, sixth_power, twelfth_power, strength, energy_at, force_along, weighted_term, pair_term}
@@ -51,6 +51,6 @@ unfolding energy_at twelfth_power sixth_power inverse_square nearest_of div_roun
 below_cutoff = refl
 
 -- at distance 0.2 the atoms are too close
-at_fifth : term_along (pos 3355443) ≡ Err record { }
+at_fifth : term_along (pos 3355443) ≡ Err record {}
 unfolding pair_term inverse_square nearest_of
 at_fifth = refl

@@ -6,11 +6,15 @@
 --   c   = 24 eps (2 s12 - s6) / r2, so that the force on i is c times the displacement
 --   e   = 4 eps (s12 - s6), less the energy at the cutoff where it is shifted
 -- each rounded once. Nothing acts at or beyond the cutoff.
-use Rattle.std.specs.Prelude.{◌≡◌, ◌+◌, ◌*◌, ◌^◌, ◌<◌, ◌≤◌, ◌==◌, ◌||◌, Bool, true, false, cond, nat_lt, nat_le, ℕ, ℤ, pos, neg_ℤ, ◌+ℤ◌, ◌-ℤ◌, ◌*ℤ◌, unsigned_abs, Option, Some, None, Result, Ok, Err, List, [], ◌∷◌}
+use Rattle.std.specs.Prelude.{◌≡◌, ◌*◌, ◌^◌, ◌<◌, ◌≤◌, ◌==◌, ◌||◌, Bool, cond, nat_lt, nat_le, ℕ, ℤ, pos, neg_ℤ, ◌+ℤ◌, ◌-ℤ◌, ◌*ℤ◌, unsigned_abs, Option, Some, None, Result, Ok, Err, List, [], ◌∷◌}
 use Rattle.fx_num.specs.Rounding.{nearest_of, div_rounded, shr_rounded}
 use Rattle.box_geo.specs.declared.term.Term.{Term}
 use Rattle.box_geo.specs.Sides.{x_of, y_of, z_of, length2}
 use Rattle.pair_lj.specs.declared.close.Close.{Close}
+
+-- a displacement with components of magnitudes below 2^34
+abbrev pub IsDisplacement : List ℤ → Type 0
+IsDisplacement d = (unsigned_abs (x_of d) < 2 ^ 34) × (unsigned_abs (y_of d) < 2 ^ 34) × (unsigned_abs (z_of d) < 2 ^ 34)
 
 -- w: the square of sigma over that of the distance
 unfoldable pub inverse_square : ℕ → ℕ → ℕ
@@ -71,6 +75,20 @@ weighted_term c e weight d =
 unfoldable pub pair_term : ℕ → ℕ → ℕ → ℤ → ℕ → List ℤ → Result (Option Term) Close
 pair_term eps sigma cut base weight d =
     cond (nat_le (cut * cut) (length2 d)) (Ok None)
-      (cond (is_too_near sigma (length2 d)) (Err record { })
-        (cond (is_too_strong (force_along (strength eps sigma (length2 d)) d)) (Err record { })
-          (Ok (Some (weighted_term (strength eps sigma (length2 d)) (energy_at eps sigma (length2 d) -ℤ base) weight d)))))
+    (cond (is_too_near sigma (length2 d)) (Err record {})
+    (cond (is_too_strong (force_along (strength eps sigma (length2 d)) d)) (Err record {})
+    (Ok (Some (weighted_term (strength eps sigma (length2 d)) (energy_at eps sigma (length2 d) -ℤ base) weight d)))))
+
+-- one vector is the negative of the other
+abbrev pub IsOpposite : List ℤ → List ℤ → Type 0
+IsOpposite d e = (x_of e ≡ neg_ℤ (x_of d)) × (y_of e ≡ neg_ℤ (y_of d)) × (z_of e ≡ neg_ℤ (z_of d))
+
+-- the outcomes are of one kind; of two terms the forces are opposite, the energies and virials equal
+abbrev pub AreOpposite : Result (Option Term) Close → Result (Option Term) Close → Type 0
+AreOpposite (Ok None) (Ok None) = Unit {0}
+AreOpposite (Ok (Some s)) (Ok (Some t)) = IsOpposite s.f t.f × (t.energy ≡ s.energy) × (t.virial ≡ s.virial)
+AreOpposite (Err c) (Err e) = Unit {0}
+AreOpposite (Ok None) (Ok (Some t)) = ⊥
+AreOpposite (Ok (Some s)) (Ok None) = ⊥
+AreOpposite (Ok o) (Err e) = ⊥
+AreOpposite (Err c) (Ok o) = ⊥

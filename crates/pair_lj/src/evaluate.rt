@@ -1,12 +1,13 @@
 //! The pair term at a displacement.
 ghost use Rattle.std.specs.Prelude.{◌≡◌, ◌+◌, ◌*◌, ◌^◌, ◌<◌, ◌≤◌, ◌⊎◌, [], ◌∷◌, pos, ◌-ℤ◌, ◌*ℤ◌, unsigned_abs, IfOk, IfSome, MatchBool};
-ghost use Rattle.box_geo.specs.Sides.{x_of, y_of, z_of};
 ghost use Rattle.fx_num.specs.Rounding.{nearest_of, div_rounded, shr_rounded, with_sign};
-ghost use Rattle.pair_lj.specs.PairTerm.{pair_term, force_along, dot, HasModerateForce, IsModerate};
+ghost use Rattle.pair_lj.specs.PairTerm.{pair_term, force_along, dot, HasModerateForce, IsDisplacement, IsModerate};
 
 use crate::close::Close;
 use crate::coefficients::Coefficients;
-use crate::magnitudes::{cube, distance2, energy_size, square, square_of_sixth, square_ratio, strength_size, weighted};
+use crate::magnitudes::{
+    cube, distance2, energy_size, square, square_of_sixth, square_ratio, strength_size, weighted,
+};
 use crate::signs::{difference, product, product_size, signed, work};
 use box_geo::Term;
 use box_geo::limits::MAX_TERM_FORCE;
@@ -17,9 +18,7 @@ const MAX_SQUARE_RATIO: u128 = 1 << 36;
 
 /// The term of atoms i and j at the displacement d from j to i, with a special weight in units.
 pub(crate) fn evaluate(k: Coefficients, d: V3, weight: u64) -> Result<Option<Term>, Close>
-    requires x { unsigned_abs (x_of d) < 2 ^ 34 }
-    requires y { unsigned_abs (y_of d) < 2 ^ 34 }
-    requires z { unsigned_abs (z_of d) < 2 ^ 34 }
+    requires d { IsDisplacement d }
     requires weight { weight ≤ 2 ^ 24 }
     ensures is { result ≡ pair_term k.epsilon k.sigma k.cutoff (pos 0) weight d }
     ensures bounded { IfOk result (λ o. IfSome o HasModerateForce) }
@@ -91,10 +90,10 @@ fn is_too_strong(size: u128, a: u64, b: u64, c: u64) -> bool
     requires c { size * c < 2 ^ 126 }
     ensures { MatchBool result
         ((2 ^ 42 < nearest_of (size * a) (2 ^ 32))
-            ⊎ ((2 ^ 42 < nearest_of (size * b) (2 ^ 32)) ⊎ (2 ^ 42 < nearest_of (size * c) (2 ^ 32))))
+        ⊎ ((2 ^ 42 < nearest_of (size * b) (2 ^ 32)) ⊎ (2 ^ 42 < nearest_of (size * c) (2 ^ 32))))
         ((nearest_of (size * a) (2 ^ 32) ≤ 2 ^ 42)
-            × (nearest_of (size * b) (2 ^ 32) ≤ 2 ^ 42)
-            × (nearest_of (size * c) (2 ^ 32) ≤ 2 ^ 42)) }
+        × (nearest_of (size * b) (2 ^ 32) ≤ 2 ^ 42)
+        × (nearest_of (size * c) (2 ^ 32) ≤ 2 ^ 42)) }
 {
     let limit = MAX_TERM_FORCE as u128;
     product_size(size, a) > limit || product_size(size, b) > limit || product_size(size, c) > limit
@@ -116,7 +115,11 @@ fn term(negative: bool, size: u128, energy: i64, x: i64, y: i64, z: i64) -> Term
     ensures virial { result.virial ≡ dot (x ∷ y ∷ z ∷ []) result.f }
     ensures bounded { IsModerate result.f }
 {
-    let (f, g, h) = (product(negative, size, x), product(negative, size, y), product(negative, size, z));
+    let (f, g, h) = (
+        product(negative, size, x),
+        product(negative, size, y),
+        product(negative, size, z),
+    );
     Term {
         f: [f, g, h],
         energy,

@@ -4,12 +4,18 @@
 mod close;
 mod coefficients;
 mod evaluate;
+mod laws;
 mod magnitudes;
 mod signs;
 mod table;
+#[cfg(test)]
+mod tests;
 mod unset;
 
 pub use close::Close;
 pub use coefficients::Coefficients;
+pub use laws::{
+    a_whole_weight_changes_nothing, pair_term_is_odd, pair_terms_are_bounded, pairs_have_no_order,
+};
 pub use table::PairTable;
 pub use unset::Unset;

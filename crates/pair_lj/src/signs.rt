@@ -22,11 +22,7 @@ pub(crate) fn difference(a: u128, b: u128) -> (bool, u128)
     ensures is { with_sign result.0 result.1 ≡ pos a -ℤ pos b }
     ensures bound { result.1 ≤ a + b }
 {
-    if a < b {
-        (true, b - a)
-    } else {
-        (false, a - b)
-    }
+    if a < b { (true, b - a) } else { (false, a - b) }
 }
 
 /// The product of a signed number and x over 2^32, rounded.
@@ -36,7 +32,10 @@ pub(crate) fn product(negative: bool, size: u128, x: i64) -> i64
     ensures is { result ≡ shr_rounded (with_sign negative size *ℤ x) 32 }
     ensures bound { unsigned_abs result ≤ 2 ^ 42 }
 {
-    signed(negative != x.is_negative(), product_size(size, x.unsigned_abs()))
+    signed(
+        negative != x.is_negative(),
+        product_size(size, x.unsigned_abs()),
+    )
 }
 
 /// The product of two magnitudes over 2^32, rounded.

@@ -2,11 +2,15 @@
 ghost use Rattle.std.specs.Prelude.{◌≡◌, ◌*◌, ◌≤◌, vec_len, true};
 ghost use Rattle.pair_lj.specs.Places.{place, AreAllSet};
 
+use crate::close::Close;
 use crate::coefficients::Coefficients;
+use crate::evaluate::evaluate;
 use crate::unset::Unset;
-use box_geo::limits::{MAX_CUTOFF, MAX_EPSILON, MAX_KINDS, MAX_SIGMA};
-use fx_num::NoMemory;
+use box_geo::Term;
+use box_geo::limits::{FULL_WEIGHT, MAX_CUTOFF, MAX_EPSILON, MAX_KINDS, MAX_SIGMA};
+use fx_num::{NoMemory, Steps, V3};
 use std::alloc::Global;
+use std::sync::ledger::Ledger;
 
 /// How many places a row has: one for each atom type that there may be.
 const ROW: usize = 64;
@@ -27,8 +31,9 @@ pub struct PairTable {
 }
 
 impl PairTable {
-    ghost use Rattle.std.specs.Prelude.{◌≡◌, ◌<◌, ◌≤◌, ℕ, pos, ◌<ℤ◌, ◌≤ℤ◌, ◌*ℤ◌, IfOk, IfErr, OnOk, OnErr, IfSome, IfNone, IsSomeAnd, IsSome, IsNone, MatchOption};
+    ghost use Rattle.std.specs.Prelude.{◌≡◌, ◌+◌, ◌<◌, ◌≤◌, ℕ, pos, unsigned_abs, ◌<ℤ◌, ◌≤ℤ◌, ◌*ℤ◌, IfOk, IfErr, OnOk, OnErr, IfSome, IfNone, IsSomeAnd, IsSome, IsNone, MatchOption};
     ghost use Rattle.pair_lj.specs.Places.{AreAllSet};
+    ghost use Rattle.pair_lj.specs.PairTerm.{pair_term, HasModerateForce, IsDisplacement};
     ghost use Rattle.pair_lj.specs.Table.{kinds_of, style_cutoff, coefficients_at, IsFinished, IsType, IsSamePair, AreNumbers, HasSameCoefficients, IsFirstUnset};
 
     /// A table of `kinds` atom types without coefficients, with `cut`, in units, as the cutoff of
@@ -116,6 +121,37 @@ impl PairTable {
             Some(k) => Some((k.epsilon as i64, k.sigma as i64, k.cutoff as i64)),
             None => None,
         }
+    }
+
+    /// The term of an atom of type i and one of type j at the displacement d from the second to the
+    /// first, with a special weight in units. It is `None` at the cutoff and beyond. It is called for
+    /// every pair of atoms that may be near, and counts one step.
+    ///
+    /// # Errors
+    ///
+    /// [`Close`] where the two are at one place, where the square of sigma over the distance is
+    /// above 16, or where a component of the force is above [`box_geo::limits::MAX_TERM_FORCE`]; the
+    /// weight doesn't change it.
+    pub fn term<L: Ledger>(
+        &self,
+        i: u8,
+        j: u8,
+        d: V3,
+        weight: i64,
+        steps: &mut Steps<L>,
+    ) -> Result<Option<Term>, Close>
+        requires finished { IsFinished self.now }
+        requires i { IsType self.now i }
+        requires j { IsType self.now j }
+        requires d { IsDisplacement d }
+        requires weight_low { pos 0 <ℤ weight }
+        requires weight_high { weight ≤ℤ FULL_WEIGHT }
+        ensures is { IsSomeAnd (coefficients_at self.now i j) (λ k. result ≡ pair_term k.epsilon k.sigma k.cutoff (pos 0) (unsigned_abs weight) d) }
+        ensures bounded { IfOk result (λ t. IfSome t HasModerateForce) }
+        ensures step { steps.new ≡ steps.old + 1 }
+    {
+        steps.tick();
+        evaluate(self.pair(i, j).unwrap(), d, weight.unsigned_abs())
     }
 
     /// The coefficients of a pair of types.

@@ -1,4 +1,4 @@
-use Rattle.std.proofs.Common.{◌≡◌, ◌*◌, ◌^◌, ◌<◌, ◌≤◌, ℕ, ℤ, pos, ◌*ℤ◌, false, unsigned_abs, Ok, Some, Result, Option, List, [], ◌∷◌, to_z, of_z, w64, FitsSigned, rules, sym, ap, subst, ◌∙◌}
+use Rattle.std.proofs.Common.{◌≡◌, ◌*◌, ◌^◌, ◌<◌, ◌≤◌, ℕ, ℤ, pos, ◌*ℤ◌, false, unsigned_abs, Ok, Some, Result, Option, List, [], ◌∷◌, w64, FitsSigned, rules, sym, ap, subst, ◌∙◌}
 use Rattle.std.proofs.lemmas.Int.{to_z-of_z}
 use Rattle.fx_num.specs.Rounding.{with_sign, shr_rounded}
 use Rattle.box_geo.specs.declared.term.Term.{Term}
@@ -122,4 +122,3 @@ returns-clause-is c =
     let same = term_is c.term.result c.strength-negative.result.0 c.strength-negative.result.1 c.weighted.result c.args.weight v e d f_is e_is virial_is v_is c.weighted.ensures.is in
     let step : Term → Result (Option Term) Close = λ t. Ok (Some t) in
     ap step same ∙ sym (moderate c.args.k.epsilon c.args.k.sigma c.args.k.cutoff (pos 0) c.args.weight d within wide (strong_false c.strength-negative.result.0 c.strength-negative.result.1 c.unsigned_abs-a.result c.unsigned_abs-b.result c.unsigned_abs-c.result v c.args.x c.args.y c.args.z v_is a_is b_is c_is c.if-is_too_strong.ensures))
-

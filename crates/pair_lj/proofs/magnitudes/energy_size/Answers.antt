@@ -1,4 +1,3 @@
-use Rattle.std.proofs.Common.{◌≤◌, ◌^◌, sym, arith}
 use Rattle.pair_lj.proofs.Sizes.{energy_small}
 use Rattle.pair_lj.proofs.magnitudes.energy_size.Goals as goal
 

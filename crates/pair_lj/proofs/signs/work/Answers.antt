@@ -14,4 +14,4 @@ returns c =
     let g = c.ranges.g in
     let h = c.ranges.h in
     sum_is c.work_along.result c.work_along-2.result c.work_along-3.result _ _ _ c.work_along.ensures.bound c.work_along-2.ensures.bound c.work_along-3.ensures.bound
-      (simp to_z-of_z at c.work_along.ensures.is) (simp to_z-of_z at c.work_along-2.ensures.is) (simp to_z-of_z at c.work_along-3.ensures.is)
+    (simp to_z-of_z at c.work_along.ensures.is) (simp to_z-of_z at c.work_along-2.ensures.is) (simp to_z-of_z at c.work_along-3.ensures.is)

@@ -1,5 +1,5 @@
 -- Sums and least numbers over all pieces, where the holders have each piece once.
-use Rattle.std.proofs.Common.{◌≡◌, ℕ, zero, suc, ◌+◌, ◌<◌, ◌≤◌, min, Bool, true, false, ltb, List, [], ◌∷◌, ◌++◌, length, get_or, take, ℤ, pos, ◌+ℤ◌, sum_by, refl, sym, ap, ◌∙◌, subst, arith, le_antisymm, ltb-true, ltb-false, take_all}
+use Rattle.std.proofs.Common.{◌≡◌, ℕ, zero, suc, ◌+◌, ◌≤◌, Bool, true, false, ltb, List, [], ◌∷◌, ◌++◌, length, get_or, take, ℤ, pos, ◌+ℤ◌, sum_by, refl, sym, ap, ◌∙◌, arith, le_antisymm, ltb-true, ltb-false, take_all}
 use Rattle.std.proofs.lemmas.Int.{ints}
 use borrow.Author.Differences.{up, down}
 use Rattle.std.proofs.lemmas.List.{take_more}

@@ -1,11 +1,11 @@
 -- Where a piece is looked up, and where it isn't there.
-use Rattle.std.proofs.Common.{◌≡◌, ℕ, zero, suc, ◌<◌, ◌≤◌, Bool, true, false, cond, ◌||◌, List, [], ◌∷◌, length, get_or, ℤ, pos, Option, Some, None, refl, sym, ap, ◌∙◌, subst, arith, nat_le, le-leb, slice_get, All}
+use Rattle.std.proofs.Common.{◌≡◌, ℕ, zero, suc, ◌≤◌, Bool, true, false, cond, ◌||◌, List, [], ◌∷◌, length, get_or, ℤ, Option, Some, None, refl, sym, ap, ◌∙◌, subst, arith, nat_le, le-leb, slice_get, All}
 use Rattle.std.proofs.lemmas.Option.{get_or_from_slice_get, slice_get_within}
 use Rattle.weave_core.specs.declared.plan.Piece.{Piece}
 use Rattle.weave_core.specs.declared.plan.Plan.{Plan}
 use Rattle.weave_core.specs.declared.event.Hand.{Hand}
 use Rattle.weave_core.specs.declared.event.Hand.TheVariants.{Free, Missed, Holds}
-use Rattle.weave_core.specs.Machine.{IsAdd, IsPlan, piece_at, is_played, still, next_add, next_key}
+use Rattle.weave_core.specs.Machine.{IsAdd, IsPlan, piece_at, still, next_add, next_key}
 
 get_none : {X : Type 0} (xs : List X) (i : ℕ) (d : X) → slice_get xs i ≡ None → get_or xs i d ≡ d
 get_none [] i d none_there = refl

@@ -1,5 +1,5 @@
 -- What the workers hold agrees with the words of the machine after every event, and so with the plan at the end.
-use Rattle.std.proofs.Common.{◌≡◌, ℕ, zero, suc, ◌+◌, ◌-◌, ◌%◌, ◌^◌, ◌<◌, ◌≤◌, ◌≢◌, min, Bool, true, false, cond, ◌&&◌, ◌||◌, ltb, List, [], ◌∷◌, ◌++◌, length, get_or, set, drop, replicate, slice_get, slice_index, ℤ, pos, ◌+ℤ◌, Option, Some, None, is_some, is_none, unwrap_or, option_map, option_and_then, nat_le, nat_lt, sum_by, All, refl, sym, ap, ◌∙◌, subst, arith, of_z, w64, FitsSigned, ltb-true, ltb-false, leb-true, length-set, get_or-set_same, get_or-set_other, drop_of_length-le}
+use Rattle.std.proofs.Common.{◌≡◌, ℕ, zero, suc, ◌+◌, ◌-◌, ◌%◌, ◌^◌, ◌<◌, ◌≤◌, min, Bool, true, false, cond, ◌||◌, List, [], ◌∷◌, ◌++◌, length, get_or, set, drop, replicate, slice_get, slice_index, ℤ, pos, ◌+ℤ◌, Option, Some, None, is_none, unwrap_or, option_map, option_and_then, nat_le, nat_lt, sum_by, All, refl, sym, ap, ◌∙◌, subst, arith, of_z, w64, leb-true, length-set, get_or-set_same, get_or-set_other, drop_of_length-le}
 use native.Mathlib.Decide.{ℕ_discrete}
 use mathlib.Core.Logic.{dite}
 use mathlib.Core.Option as maybe
@@ -9,7 +9,6 @@ use Rattle.std.proofs.lemmas.Bool.{and_parts}
 use Rattle.std.proofs.lemmas.List.{length-replicate, get_or-replicate}
 use Rattle.std.proofs.lemmas.List.Sums.{sum_by-cons}
 use Rattle.std.proofs.lemmas.List.Elements.{All-cons, All-head, All-tail, All-replicate, All-from_get_or}
-use Rattle.std.proofs.lemmas.Option.{slice_get_within}
 use Rattle.sums.specs.Totals.{total, into}
 use Rattle.sums.proofs.Totals.{total-append}
 use Rattle.weave_core.specs.declared.part.Part.{Part}
@@ -19,14 +18,14 @@ use Rattle.weave_core.specs.declared.event.Event.{Event}
 use Rattle.weave_core.specs.declared.event.Event.TheVariants.{Claim, Add, Lower}
 use Rattle.weave_core.specs.declared.event.Hand.{Hand}
 use Rattle.weave_core.specs.declared.event.Hand.TheVariants.{Free, Missed, Holds}
-use Rattle.weave_core.specs.declared.limits.TheConstants.{SHARES, MAX_ADD, NO_KEY}
-use Rattle.weave_core.specs.Parts.{numbers_below, total_at, least, fresh, claimed, added, lowered}
+use Rattle.weave_core.specs.declared.limits.TheConstants.{SHARES, NO_KEY}
+use Rattle.weave_core.specs.Parts.{total_at, least, fresh, claimed, added, lowered}
 use Rattle.weave_core.specs.Agree.{Wraps, IsSound, HoldEachBelow, Agree}
 use Rattle.weave_core.specs.Machine.{IsAdd, IsPlan, Machine, key_of, piece_at, is_played, still, drawn, next_add, next_key, past_add, past_key, is_free, is_missed, is_holding, begin, hand_of, with_add, play, play_all, IsDone, first_parts, part_of, gains, gains_all, words_of, Ended, OrderFree}
 use Rattle.weave_core.proofs.Hands.{next_add-inside}
-use Rattle.weave_core.proofs.Lists.{at_index, at_within, All-at, least-le, least-append}
+use Rattle.weave_core.proofs.Lists.{at_index, least-append}
 use Rattle.weave_core.proofs.Words.{wraps_zero, wraps_same}
-use Rattle.weave_core.proofs.Steps.{here, claims_keep, adds_keep, lowers_keep}
+use Rattle.weave_core.proofs.Steps.{claims_keep, adds_keep, lowers_keep}
 use Rattle.weave_core.proofs.Ends.{total_of_all, least_of_all, total_numbered, least_numbered}
 
 -- ---- a hand and a part that fit

@@ -1,20 +1,20 @@
 -- Each step keeps the agreement of words and holders.
-use Rattle.std.proofs.Common.{◌≡◌, ℕ, zero, suc, ◌+◌, ◌-◌, ◌%◌, ◌^◌, ◌<◌, ◌≤◌, ◌≢◌, min, Bool, true, false, cond, ltb, List, [], ◌∷◌, ◌++◌, length, get_or, set, slice_index, ℤ, pos, ◌+ℤ◌, neg_ℤ, sum_by, All, refl, sym, ap, ◌∙◌, subst, arith, of_z, w64, FitsSigned, get_or-set_same, get_or-set_other, length-set, length-append, eq-eqb, ne_eqb, ltb-true, ltb-false}
-use native.Mathlib.Decide.{ℕ_discrete, dec_lt}
+use Rattle.std.proofs.Common.{◌≡◌, ℕ, zero, suc, ◌+◌, ◌%◌, ◌^◌, ◌<◌, ◌≤◌, ◌≢◌, min, Bool, true, false, cond, ltb, List, [], ◌∷◌, ◌++◌, length, set, slice_index, ℤ, pos, ◌+ℤ◌, sum_by, refl, sym, ap, ◌∙◌, subst, arith, of_z, w64, FitsSigned, get_or-set_same, get_or-set_other, length-set, length-append, eq-eqb, ne_eqb, ltb-true, ltb-false}
+use native.Mathlib.Decide.{ℕ_discrete}
 use mathlib.Core.Logic.{dite}
 use Rattle.std.proofs.lemmas.Int.{ints}
-use Rattle.std.proofs.lemmas.List.Sums.{sum_by-cons, sum_by-append, sum_by_push}
-use Rattle.std.proofs.lemmas.List.Elements.{All-set, All-push, All-append, All-weaker}
-use mathlib.Core.Option.{some, some-injective}
+use Rattle.std.proofs.lemmas.List.Sums.{sum_by-cons, sum_by_push}
+use Rattle.std.proofs.lemmas.List.Elements.{All-set, All-weaker}
+use mathlib.Core.Option.{some}
 use lib.ListN.{get_elem?}
 use Rattle.sums.specs.Totals.{total, into}
 use Rattle.sums.proofs.Totals.{total-append}
 use Rattle.weave_core.specs.declared.part.Part.{Part}
-use Rattle.weave_core.specs.declared.limits.TheConstants.{SHARES, NO_KEY}
-use Rattle.weave_core.specs.Parts.{numbers_below, total_at, least, fresh, claimed, added, lowered, collected, unclaimed, unkeyed, giving, both}
+use Rattle.weave_core.specs.declared.limits.TheConstants.{SHARES}
+use Rattle.weave_core.specs.Parts.{numbers_below, total_at, least, claimed, added, lowered}
 use Rattle.weave_core.specs.Agree.{Wraps, IsSound, HoldEachBelow, Agree}
-use Rattle.weave_core.proofs.Lists.{at_within, All-at, at_set_here, at_set_else, sum_by-at, sum_by-same_at, at-le-sum_by, sum_by-le_sum_by, total-at, total-same_at, least-le, least-le_at, least-append, least-lowered_at, least-same_at, least-spent_at, sum_by-alone, total-alone, least-alone}
-use Rattle.weave_core.proofs.Words.{wraps_zero, wraps_add, wraps_same}
+use Rattle.weave_core.proofs.Lists.{All-at, sum_by-at, sum_by-same_at, at-le-sum_by, sum_by-le_sum_by, total-at, total-same_at, least-lowered_at, least-same_at}
+use Rattle.weave_core.proofs.Words.{wraps_add, wraps_same}
 
 pub sum_by-ones : (xs : List ℕ) → sum_by (λ _. 1) xs ≡ length xs
 sum_by-ones [] = refl

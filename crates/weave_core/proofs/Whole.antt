@@ -1,18 +1,18 @@
 -- The steps of a holder of all shares, and of holders who split and join.
-use Rattle.std.proofs.Common.{◌≡◌, ℕ, zero, suc, ◌+◌, ◌-◌, ◌^◌, ◌<◌, ◌≤◌, ◌≢◌, min, List, [], ◌∷◌, ◌++◌, length, set, slice_index, ℤ, pos, ◌+ℤ◌, neg_ℤ, sum_by, All, refl, sym, ap, ◌∙◌, subst, arith, length-append, to_z, w64, FitsSigned}
+use Rattle.std.proofs.Common.{◌≡◌, ℕ, ◌+◌, ◌<◌, ◌≤◌, ◌≢◌, min, List, [], ◌∷◌, ◌++◌, length, set, slice_index, ℤ, pos, ◌+ℤ◌, neg_ℤ, sum_by, All, refl, sym, ap, ◌∙◌, subst, arith, length-append, to_z, w64, FitsSigned}
 use native.Mathlib.Decide.{ℕ_discrete}
 use mathlib.Core.Logic.{dite}
 use Rattle.std.proofs.lemmas.Int.{ints}
 use Rattle.std.proofs.lemmas.List.Sums.{sum_by-append, sum_by_push}
 use Rattle.std.proofs.lemmas.List.Elements.{All-set, All-push, All-weaker}
-use mathlib.Core.Option.{some, some-injective}
+use mathlib.Core.Option.{some}
 use lib.ListN.{get_elem?}
 use Rattle.sums.specs.Totals.{total, into}
 use Rattle.sums.proofs.Totals.{total-append}
 use Rattle.weave_core.specs.declared.part.Part.{Part}
 use Rattle.weave_core.specs.declared.limits.TheConstants.{SHARES, NO_KEY}
-use Rattle.weave_core.specs.Parts.{numbers_below, total_at, least, fresh, collected, unclaimed, unkeyed, giving, both}
-use Rattle.weave_core.specs.Agree.{Wraps, IsSound, HasEachBelow, HoldEachBelow, Agree}
+use Rattle.weave_core.specs.Parts.{total_at, least, fresh, collected, unclaimed, unkeyed, giving, both}
+use Rattle.weave_core.specs.Agree.{Wraps, IsSound, HasEachBelow, Agree}
 use Rattle.weave_core.proofs.Lists.{at_within, All-at, at_set_here, at_set_else, sum_by-at, sum_by-same_at, total-at, least-le, least-le_at, least-append, least-lowered_at, least-same_at, least-spent_at, sum_by-alone, total-alone, least-alone}
 use Rattle.weave_core.proofs.Words.{wraps_zero, wraps_same, wraps_fits}
 use Rattle.weave_core.proofs.Steps.{here, replaced, word_here, word_else, long_set, same_pieces, same_counter, same_sums, same_key, into_here, into_else, total_at-added, misses_show}

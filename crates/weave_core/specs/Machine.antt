@@ -1,5 +1,5 @@
 -- The machine of workers: what each step does, and what every order of steps ends with.
-use Rattle.std.specs.Prelude.{◌≡◌, ℕ, zero, suc, ◌+◌, ◌-◌, ◌%◌, ◌^◌, ◌<◌, ◌≤◌, min, Bool, true, false, ◌&&◌, ◌||◌, List, [], ◌∷◌, length, ℤ, pos, Option, Some, None, is_some, is_none, unwrap_or, option_map, option_and_then, nat_lt, nat_le, if◌then◌else◌, slice_get, slice_index, slice_index_or, slice_set, replicate, unsigned_abs, All}
+use Rattle.std.specs.Prelude.{◌≡◌, ℕ, ◌+◌, ◌-◌, ◌%◌, ◌^◌, ◌<◌, ◌≤◌, min, Bool, true, false, ◌&&◌, ◌||◌, List, [], ◌∷◌, length, ℤ, Option, Some, None, is_none, unwrap_or, option_map, option_and_then, nat_lt, nat_le, if◌then◌else◌, slice_get, slice_index, slice_index_or, slice_set, replicate, unsigned_abs, All}
 use Rattle.std.specs.Int.{cast_unsigned}
 use mir.Syntax.{w64}
 use Rattle.sums.specs.Totals.{total}

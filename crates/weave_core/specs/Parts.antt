@@ -1,5 +1,5 @@
 -- What a holder has, and how each step changes it.
-use Rattle.std.specs.Prelude.{◌≡◌, ℕ, zero, suc, ◌+◌, ◌-◌, ◌<◌, min, List, [], ◌∷◌, ◌++◌, ℤ, neg_ℤ, nat_lt, if◌then◌else◌}
+use Rattle.std.specs.Prelude.{ℕ, zero, suc, ◌+◌, ◌-◌, min, List, [], ◌∷◌, ◌++◌, ℤ, neg_ℤ, nat_lt, if◌then◌else◌}
 use Rattle.sums.specs.Totals.{total, into}
 use Rattle.weave_core.specs.declared.part.Part.{Part}
 use Rattle.weave_core.specs.declared.limits.TheConstants.{NO_KEY}

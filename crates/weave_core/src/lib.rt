@@ -4,7 +4,7 @@
 //! A plan is a list of pieces of work. A piece has adds, each to a force word, and at most one key of a
 //! fault. Workers claim pieces from a counter, play their adds, and lower the fault word to their keys.
 //! Whatever the order of these steps, each piece is claimed once, each force word ends as the sum of all
-//! its adds, and the fault word as the least key: this is the contract of [`order_free`].
+//! its adds, and the fault word as the least key: the contract of [`order_free`] says so.
 #![tactic(auto)]
 
 mod event;
@@ -13,6 +13,9 @@ mod laws;
 mod limits;
 mod part;
 mod plan;
+#[cfg(test)]
+mod tests;
+mod valid;
 mod weave;
 
 pub use event::{Event, Hand};

@@ -89,18 +89,21 @@ neighbours s d =
 abbrev pub log_text : Bool → List ℕ → List Piece
 log_text fresh text = piece_of log_name fresh text ∷ piece_of screen_name fresh text ∷ []
 
--- the numbers of the thermo line at step 0, for two atoms at rest
-abbrev pub numbers_of : Script → Data → List Number
-numbers_of s d =
-    let pair : ℤ = energy_share (pair_energy s d) 2 in
+-- the numbers of the thermo line at step 0, for two atoms at rest with these sums over their pairs
+abbrev pub rest_numbers : ℤ → ℤ → Sides → List Number
+rest_numbers energy virial sides =
+    let pair : ℤ = energy_share energy 2 in
     let molecular : ℤ = energy_share (pos 0) 2 in
     record { keyword = codes "step"; value = pos 0 }
-    ∷ record { keyword = codes "temp"; value = temperature (pos 0) 2 3 }
-    ∷ record { keyword = codes "epair"; value = pair }
-    ∷ record { keyword = codes "emol"; value = molecular }
-    ∷ record { keyword = codes "etotal"; value = pair +ℤ molecular +ℤ kinetic_share (pos 0) 2 }
-    ∷ record { keyword = codes "press"; value = pressure (pos 0) (pair_virial s d) (box_of d) }
-    ∷ []
+      ∷ record { keyword = codes "temp"; value = temperature (pos 0) 2 3 }
+      ∷ record { keyword = codes "epair"; value = pair }
+      ∷ record { keyword = codes "emol"; value = molecular }
+      ∷ record { keyword = codes "etotal"; value = pair +ℤ molecular +ℤ kinetic_share (pos 0) 2 }
+      ∷ record { keyword = codes "press"; value = pressure (pos 0) virial sides }
+      ∷ []
+
+abbrev pub numbers_of : Script → Data → List Number
+numbers_of s d = rest_numbers (pair_energy s d) (pair_virial s d) (box_of d)
 
 -- the names of the phase and the kind of a fault
 abbrev pub phase_name : ℕ → List ℕ
@@ -119,7 +122,7 @@ kind_name k =
 -- the line of a fault at a step
 unfoldable pub fault_text : FaultKey → ℕ → List ℕ
 fault_text k step =
-    codes "ERROR: " ++ kind_name k.kind ++ 32 ∷ decimal k.a ++ 32 ∷ decimal k.b ++ codes " in " ++ phase_name k.phase ++ codes " at step " ++ decimal step ++ 10 ∷ []
+    codes "ERROR: " ++ kind_name k.kind ++ codes " " ++ decimal k.a ++ codes " " ++ decimal k.b ++ codes " in " ++ phase_name k.phase ++ codes " at step " ++ decimal step ++ codes "\n"
 
 -- the run of a script with its data: set-up, and then the header, the line of step 0 and the footer, or the line of the fault
 abbrev pub run_with : Script → Data → Option FaultKey → Run

@@ -5,6 +5,7 @@
 mod first_form;
 mod forms;
 mod names;
+mod send;
 mod status;
 mod words;
 

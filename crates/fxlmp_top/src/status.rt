@@ -1,4 +1,6 @@
 //! How a run of the program ends.
+ghost use Rattle.std.specs.Prelude.{◌≡◌};
+ghost use Rattle.fxlmp_top.specs.Ends.{number_of};
 
 use box_geo::FaultKey;
 
@@ -20,4 +22,21 @@ pub enum Status {
     Usage { place: u64 },
     /// A file is missing, too long, or in a form that is not built yet.
     NotBuilt,
+}
+
+impl Status {
+    /// The number with which the program exits.
+    pub fn number(&self) -> u8
+        ensures { result ≡ number_of self.now }
+    {
+        match self {
+            Status::Done => 0,
+            Status::RangeFault { .. } => 2,
+            Status::ReadFault => 3,
+            Status::WriteFault => 4,
+            Status::NoMemory => 6,
+            Status::Usage { .. } => 7,
+            Status::NotBuilt => 9,
+        }
+    }
 }

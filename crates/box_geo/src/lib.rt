@@ -9,6 +9,8 @@ pub mod limits;
 mod sim_box;
 mod styles;
 mod term;
+#[cfg(test)]
+mod tests;
 
 pub use atoms::{
     Angle, Angles, Atom, Atoms, Bond, Bonds, Ids, Masses, Points, Site, Sites, System,

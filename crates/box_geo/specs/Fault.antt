@@ -36,6 +36,6 @@ IsLess m n rest = (m < n) ⊎ ((m ≡ n) × rest)
 abbrev pub ComesBefore : FaultKey → FaultKey → Type 0
 ComesBefore k l = IsLess k.phase l.phase (IsLess k.kind l.kind (IsLess k.a l.a (k.b < l.b)))
 
--- no fault: greater than every key
+-- no fault: greater than the key of every phase and kind there is
 abbrev pub no_fault : ℕ
 no_fault = 2 ^ 64 - 1

@@ -64,7 +64,7 @@ Holds e x = (e.lo ≤ℤ x) × (x <ℤ e.hi)
 abbrev pub IsInside : Sides → List ℤ → Type 0
 IsInside s p = Holds s.x (x_of p) × Holds s.y (y_of p) × Holds s.z (z_of p)
 
--- of the differences d + k·edge, the one nearest to 0, for d between -edge and edge; d itself where the axis does not wrap
+-- of the differences d + k·edge, the one nearest to 0, for d between -edge and edge; d itself where the axis does not wrap, and at exactly half an edge
 abbrev pub near_along : Bool → ℤ → ℤ → ℤ
 near_along false length d = d
 near_along true length d =

@@ -1,5 +1,5 @@
 //! The limits of the whole project. Lengths, velocities, forces, energies and masses are in units of
-//! 2^-24; a limit that reads "up to" belongs to the range.
+//! 2^-24; a greatest or least value belongs to the range.
 
 /// The greatest number of atoms of a system, and of points that a lattice makes.
 pub const MAX_ATOMS: u32 = 1 << 20;
@@ -43,7 +43,8 @@ pub const MAX_REST_LENGTH: i64 = 1 << 28;
 pub const FULL_WEIGHT: i64 = 1 << 24;
 /// The greatest magnitude of a component of the force of one term; a greater one is a fault.
 pub const MAX_TERM_FORCE: i64 = 1 << 42;
-/// The greatest magnitude of a component of the force on an atom; a greater one is a fault.
+/// The greatest magnitude of a component of the force on an atom, and of a value that a script sets or
+/// adds; a greater force is a fault.
 pub const MAX_FORCE: i64 = 1 << 44;
 
 /// The least mass, 2^-10.

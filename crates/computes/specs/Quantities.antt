@@ -1,4 +1,4 @@
--- Thermodynamic quantities, each one fraction rounded once (after the manual, with roundings of our own).
+-- Thermodynamic quantities, each rounded once; for the pressure s and w are rounded before, to units of 2^-24 (after the manual, with roundings of our own).
 --
 -- s is the sum of mass times squared velocity, in units of 2^-72; w the sum of displacement times force, in units of 2^-48.
 use Rattle.std.specs.Prelude.{◌+◌, ◌-◌, ◌*◌, ◌^◌, ◌==◌, Bool, cond, ℕ, ℤ, pos, ◌+ℤ◌, ◌*ℤ◌}
@@ -18,9 +18,9 @@ temperature s n dim = cond (freedom dim n == 0) (pos 0) (div_rounded s (pos (fre
 unfoldable pub kinetic_energy : ℤ → ℤ
 kinetic_energy s = div_rounded s (pos (2 ^ 49))
 
--- the kinetic energy for each of n atoms, n above 0
+-- the kinetic energy for each of n atoms, 0 without atoms
 unfoldable pub kinetic_share : ℤ → ℕ → ℤ
-kinetic_share s n = div_rounded s (pos (2 ^ 49 * n))
+kinetic_share s n = cond (n == 0) (pos 0) (div_rounded s (pos (2 ^ 49 * n)))
 
 -- an energy for each of n atoms, 0 without atoms
 unfoldable pub energy_share : ℤ → ℕ → ℤ

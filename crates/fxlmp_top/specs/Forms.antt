@@ -1,4 +1,4 @@
--- Forms of texts. A form is a text in which `%` stands for a word and `*` for the rest of a line; all else stands for itself.
+-- Forms of texts. A form is a text in which `%` stands for a word, which may be empty, and `*` for the rest of a line; all else stands for itself.
 use Rattle.std.specs.Prelude.{◌≡◌, ◌==◌, ◌&&◌, Bool, true, false, not, cond, ℕ, Option, Some, None, List, [], ◌∷◌, ◌++◌, map, option_and_then, take, drop}
 use Rattle.std.specs.List.{prefix_len}
 use Rattle.std.specs.Option.{option_map}
@@ -12,7 +12,7 @@ pub data Part : Type 0 where
 abbrev pub part_of : ℕ → Part
 part_of c = cond (c == 37) word (cond (c == 42) line (byte c))
 
--- the bytes of a word: neither a blank nor a line feed
+-- the bytes of a word: neither a space nor a line feed
 abbrev pub is_word_byte : ℕ → Bool
 is_word_byte c = not (c == 32) && not (c == 10)
 

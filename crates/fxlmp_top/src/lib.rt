@@ -4,6 +4,7 @@
 
 mod first_form;
 mod forms;
+mod input;
 mod names;
 mod send;
 mod status;

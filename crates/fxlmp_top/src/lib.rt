@@ -2,10 +2,13 @@
 //! shelf to the pieces of the serial meaning and its status.
 #![tactic(auto)]
 
+mod fault;
 mod first_form;
 mod forms;
 mod input;
 mod names;
+mod rest;
+mod run;
 mod send;
 mod status;
 mod words;

@@ -11,7 +11,7 @@ use box_geo::SimBox;
 pub(crate) struct Input {
     pub data: Data,
     pub cell: SimBox,
-    pub ghost same: { cell.sides ≡ box_of data },
-    pub ghost first_inside: { IsInside cell.sides data.first },
-    pub ghost second_inside: { IsInside cell.sides data.second },
+    pub ghost same: { cell.sides ≡ box_of «data» },
+    pub ghost first_inside: { IsInside cell.sides «data».first },
+    pub ghost second_inside: { IsInside cell.sides «data».second },
 }

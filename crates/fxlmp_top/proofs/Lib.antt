@@ -1,3 +1,4 @@
 pub mod RestLemmas
+pub mod FormLemmas
 pub mod SendLemmas
 mod Worked

@@ -37,13 +37,21 @@ is_between low high v = int_le low v && int_le v high
 abbrev pub is_script : Script → Bool
 is_script s =
     is_input_name s.input
-      && is_between (pos 1) MAX_CUTOFF s.cutoff
-      && is_between (pos 0) MAX_EPSILON s.epsilon
-      && is_between (pos 1) MAX_SIGMA s.sigma
-      && int_le s.sigma (pos 4 *ℤ s.cutoff)
+    && is_between (pos 1) MAX_CUTOFF s.cutoff
+    && is_between (pos 0) MAX_EPSILON s.epsilon
+    && is_between (pos 1) MAX_SIGMA s.sigma
+    && int_le s.sigma (pos 4 *ℤ s.cutoff)
 
 abbrev pub checked_script : Script → Option Script
 checked_script s = cond (is_script s) (Some s) None
+
+-- the limits of a script's numbers as orders: what a table of pair coefficients asks for
+abbrev pub IsSoundScript : Script → Type 0
+IsSoundScript s =
+    (pos 0 <ℤ s.cutoff) × (s.cutoff ≤ℤ MAX_CUTOFF)
+    × (pos 0 ≤ℤ s.epsilon) × (s.epsilon ≤ℤ MAX_EPSILON)
+    × (pos 0 <ℤ s.sigma) × (s.sigma ≤ℤ MAX_SIGMA)
+    × (s.sigma ≤ℤ (pos 4 *ℤ s.cutoff))
 
 abbrev pub script_with : List ℕ → Option ℤ → Option ℤ → Option ℤ → Option Script
 script_with input (Some cutoff) (Some epsilon) (Some sigma) = checked_script record { input = input; cutoff = cutoff; epsilon = epsilon; sigma = sigma }
@@ -96,10 +104,10 @@ is_inside s p = holds s.x (x_of p) && holds s.y (y_of p) && holds s.z (z_of p)
 abbrev pub is_data : ℤ → Data → Bool
 is_data cutoff d =
     is_none (box_refusal d.lo d.hi)
-      && has_room cutoff (box_of d)
-      && is_between MIN_MASS MAX_MASS d.mass
-      && is_inside (box_of d) d.first
-      && is_inside (box_of d) d.second
+    && has_room cutoff (box_of d)
+    && is_between MIN_MASS MAX_MASS d.mass
+    && is_inside (box_of d) d.first
+    && is_inside (box_of d) d.second
 
 abbrev pub checked_data : ℤ → Option Data → Option Data
 checked_data cutoff None = None

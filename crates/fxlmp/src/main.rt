@@ -1,0 +1,77 @@
+//! The program `fxlmp`: it runs a script of molecular dynamics over the files of the current folder,
+//! and exits with the number of the run's status.
+#![tactic(auto)]
+
+ghost use Rattle.std.specs.Prelude.{◌≡◌, ◌≢◌, ◌<◌};
+ghost use Rattle.std.specs.Process.{exit_status};
+ghost use Rattle.fxlmp_top.specs.Ends.{number_of};
+ghost use Rattle.fxlmp.specs.Request.{IsPrinted, request_of};
+
+mod arguments;
+mod messages;
+#[cfg(test)]
+mod tests;
+
+use arguments::{Request, read_words, request_of};
+use fx_num::{Steps, Text};
+use fxlmp_top::{Status, run_words};
+use messages::{Help, VERSION, explain};
+use outside_real::{FilePress, FileShelf};
+use std::fmt::Display;
+use std::marker::Brand;
+use std::process::ExitCode;
+use std::rt::Files;
+use std::sync::ledger::{Blank, Ledger};
+
+/// Runs what the words say over the files of the current folder and the standard output.
+fn run<L: Ledger>(rt: &(impl Files + Print + AllocGlobal), words: &[Text], blank: Blank) -> Status
+    requires name { blank.name ≡ L.name }
+    requires parts { blank.parts ≡ L.parts }
+    requires some { 0 < blank.parts }
+{
+    let mut shelf = FileShelf::new(rt);
+    let mut press = FilePress::new(rt);
+    let mut steps = Steps::<L>::new(blank);
+    run_words(rt.alloc(), words, &mut shelf, &mut press, &mut steps)
+}
+
+/// Prints a text on the standard output.
+fn print_text(rt: &impl Print, text: impl Display + Drop) -> Status
+    ensures { IsPrinted result }
+{
+    match rt.println(text) {
+        Ok(()) => Status::Done,
+        Err(_) => Status::WriteFault,
+    }
+}
+
+/// Does what the words of the command line ask for: a text is printed with no run.
+fn answer(rt: &(impl Files + Print + AllocGlobal), words: &[Text]) -> Status
+    ensures printed { request_of words.now ≢ Request.Run → IsPrinted result }
+{
+    match request_of(words) {
+        Request::Help => print_text(rt, Help),
+        Request::Version => print_text(rt, VERSION),
+        Request::Run => run::<Brand>(rt, words, Blank::new(1)),
+    }
+}
+
+/// Says on standard error what the status means, where no output says it, and gives its number to
+/// exit with.
+fn finish(rt: &impl Eprint, words: Option<&[Text]>, status: Status) -> ExitCode
+    ensures { exit_status result ≡ number_of status }
+{
+    // where standard error fails too, the number is all that is left to say
+    let _ = explain(rt, words, &status);
+    ExitCode::from(status.number())
+}
+
+fn main(rt: HostRuntime) -> ExitCode {
+    match read_words(&rt) {
+        Ok(words) => {
+            let status = answer(&rt, words.as_slice());
+            finish(&rt, Some(words.as_slice()), status)
+        }
+        Err(status) => finish(&rt, None, status),
+    }
+}

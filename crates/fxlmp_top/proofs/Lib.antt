@@ -1,4 +1,5 @@
 pub mod RestLemmas
+pub mod EndLemmas
 pub mod FormLemmas
 pub mod SendLemmas
 mod Worked

@@ -40,20 +40,20 @@ plus_zero p m k first second = omega (arith, ints)
 abbrev list_with : ℤ → ℤ → ℤ → ℤ → ℤ → List Number
 list_with temp pair molecular whole press =
     record { keyword = codes "step"; value = pos 0 }
-      ∷ record { keyword = codes "temp"; value = temp }
-      ∷ record { keyword = codes "epair"; value = pair }
-      ∷ record { keyword = codes "emol"; value = molecular }
-      ∷ record { keyword = codes "etotal"; value = whole }
-      ∷ record { keyword = codes "press"; value = press }
-      ∷ []
+    ∷ record { keyword = codes "temp"; value = temp }
+    ∷ record { keyword = codes "epair"; value = pair }
+    ∷ record { keyword = codes "emol"; value = molecular }
+    ∷ record { keyword = codes "etotal"; value = whole }
+    ∷ record { keyword = codes "press"; value = press }
+    ∷ []
 
 pub pushed_are : (energy virial : ℤ) (sides : Sides) → pushed_numbers (energy_share energy 2) (pressure (pos 0) virial sides) ≡ rest_numbers energy virial sides
 pushed_are energy virial sides =
     let p : ℤ = energy_share energy 2 in
     let q : ℤ = pressure (pos 0) virial sides in
     ap (λ (t : ℤ). list_with t p (pos 0) p q) (sym no_temperature)
-      ∙ ap (λ (m : ℤ). list_with (temperature (pos 0) 2 3) p m p q) (sym no_energy)
-      ∙ ap (λ (w : ℤ). list_with (temperature (pos 0) 2 3) p (energy_share (pos 0) 2) w q) (sym (plus_zero p (energy_share (pos 0) 2) (kinetic_share (pos 0) 2) no_energy no_motion))
+    ∙ ap (λ (m : ℤ). list_with (temperature (pos 0) 2 3) p m p q) (sym no_energy)
+    ∙ ap (λ (w : ℤ). list_with (temperature (pos 0) 2 3) p (energy_share (pos 0) 2) w q) (sym (plus_zero p (energy_share (pos 0) 2) (kinetic_share (pos 0) 2) no_energy no_motion))
 
 -- each column of style one has its number
 pub pushed_ready : (pair press : ℤ) → unsigned_abs pair ≤ 2 ^ 98 → unsigned_abs press ≤ 2 ^ 98 → HasEachNumber (pushed_numbers pair press) style_one
@@ -69,14 +69,14 @@ sum_bound a b c x y z = omega (arith, ints)
 dot_bound : (d f : List ℤ) → IsDisplacement d → IsModerate f → unsigned_abs (dot d f) ≤ 2 ^ 80
 dot_bound d f small moderate =
     sum_bound (x_of d *ℤ x_of f) (y_of d *ℤ y_of f) (z_of d *ℤ z_of f)
-      (product_bound (x_of d) (x_of f) small.0 moderate.0)
-      (product_bound (y_of d) (y_of f) small.1 moderate.1)
-      (product_bound (z_of d) (z_of f) small.2 moderate.2)
+    (product_bound (x_of d) (x_of f) small.0 moderate.0)
+    (product_bound (y_of d) (y_of f) small.1 moderate.1)
+    (product_bound (z_of d) (z_of f) small.2 moderate.2)
 
 abbrev with_term : Term → Result (Option Term) Close
 with_term t = Ok (Some t)
 
-chosen : (a b c : Bool) (x t : Term) → cond a (Ok None) (cond b (Err record { }) (cond c (Err record { }) (Ok (Some x)))) ≡ with_term t → x ≡ t
+chosen : (a b c : Bool) (x t : Term) → cond a (Ok None) (cond b (Err record {}) (cond c (Err record {}) (Ok (Some x)))) ≡ with_term t → x ≡ t
 chosen true b c x t e = absurd cc
 chosen false true c x t e = absurd cc
 chosen false false true x t e = absurd cc

@@ -1,9 +1,11 @@
 -- How a call ends, against what it was to write.
-use Rattle.std.specs.Prelude.{◌≡◌, ℕ, OnOk, IfErr, Option, Result, List}
+use Rattle.std.specs.Prelude.{◌≡◌, ℕ, OnOk, IfErr, Option, Some, None, Result, Ok, Err, List}
 use Rattle.outside.specs.declared.press.Piece.{Piece}
 use Rattle.outside.specs.Sent.{plus, SendsFront, SendsCut}
 use Rattle.fxlmp_top.specs.declared.send.Stop.{Stop}
 use Rattle.fxlmp_top.specs.declared.send.Stop.TheVariants as stop
+use Rattle.fxlmp_top.specs.declared.fetch.Miss.{Miss}
+use Rattle.fxlmp_top.specs.declared.fetch.Miss.TheVariants as miss
 use Rattle.fxlmp_top.specs.declared.status.Status.{Status}
 use Rattle.fxlmp_top.specs.declared.status.Status.TheVariants.{Done, RangeFault, ReadFault, WriteFault, NoMemory, Usage, NotBuilt}
 use Rattle.fxlmp_top.specs.Serial.{Run}
@@ -17,6 +19,19 @@ Stopped stop.NoMemory old pieces new = SendsFront old pieces new
 abbrev pub status_after : Stop → Status
 status_after stop.WriteFault = WriteFault
 status_after stop.NoMemory = NoMemory
+
+-- how a run ends whose text was not had
+abbrev pub status_of_miss : Miss → Status
+status_of_miss miss.NotBuilt = NotBuilt
+status_of_miss miss.ReadFault = ReadFault
+status_of_miss miss.NoMemory = NoMemory
+
+-- a fetch has this text; it is missed exactly where there is none, unless a fault or want of memory came between
+abbrev pub Gets : Option (List ℕ) → Result (List ℕ) Miss → Type 0
+Gets had (Ok text) = had ≡ Some text
+Gets had (Err miss.NotBuilt) = had ≡ None
+Gets had (Err miss.ReadFault) = Unit {0}
+Gets had (Err miss.NoMemory) = Unit {0}
 
 -- a call sends these pieces, or stops among them
 pub record Sends {T : Type 0} (old : Option (List Piece)) (pieces : List Piece) (result : Result T Stop) (new : Option (List Piece)) : Type 0 where

@@ -116,8 +116,3 @@ checked_data cutoff (Some d) = cond (is_data cutoff d) (Some d) None
 -- what a text says as a data file, if it is one of the first form for this cutoff
 unfoldable pub data_of : ℤ → List ℕ → Option Data
 data_of cutoff text = checked_data cutoff (data_from (words_of data_form text))
-
--- the numbers of a sound script, as orders
-abbrev pub IsSoundScript : Script → Type 0
-IsSoundScript s =
-    (pos 0 <ℤ s.cutoff) × (s.cutoff ≤ℤ MAX_CUTOFF) × (pos 0 ≤ℤ s.epsilon) × (s.epsilon ≤ℤ MAX_EPSILON) × (pos 0 <ℤ s.sigma) × (s.sigma ≤ℤ MAX_SIGMA) × (s.sigma ≤ℤ (pos 4 *ℤ s.cutoff))

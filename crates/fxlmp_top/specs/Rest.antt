@@ -42,12 +42,12 @@ displacement_of d = near_image (box_of d) d.first d.second
 abbrev pub pushed_numbers : ℤ → ℤ → List Number
 pushed_numbers pair press =
     record { keyword = codes "step"; value = pos 0 }
-      ∷ record { keyword = codes "temp"; value = pos 0 }
-      ∷ record { keyword = codes "epair"; value = pair }
-      ∷ record { keyword = codes "emol"; value = pos 0 }
-      ∷ record { keyword = codes "etotal"; value = pair }
-      ∷ record { keyword = codes "press"; value = press }
-      ∷ []
+    ∷ record { keyword = codes "temp"; value = pos 0 }
+    ∷ record { keyword = codes "epair"; value = pair }
+    ∷ record { keyword = codes "emol"; value = pos 0 }
+    ∷ record { keyword = codes "etotal"; value = pair }
+    ∷ record { keyword = codes "press"; value = press }
+    ∷ []
 
 -- the texts of a run without a fault
 pub record AreRunTexts (s : Script) (d : Data) (t : RunTexts) : Type 0 where

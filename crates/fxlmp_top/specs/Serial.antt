@@ -95,12 +95,12 @@ rest_numbers energy virial sides =
     let pair : ℤ = energy_share energy 2 in
     let molecular : ℤ = energy_share (pos 0) 2 in
     record { keyword = codes "step"; value = pos 0 }
-      ∷ record { keyword = codes "temp"; value = temperature (pos 0) 2 3 }
-      ∷ record { keyword = codes "epair"; value = pair }
-      ∷ record { keyword = codes "emol"; value = molecular }
-      ∷ record { keyword = codes "etotal"; value = pair +ℤ molecular +ℤ kinetic_share (pos 0) 2 }
-      ∷ record { keyword = codes "press"; value = pressure (pos 0) virial sides }
-      ∷ []
+    ∷ record { keyword = codes "temp"; value = temperature (pos 0) 2 3 }
+    ∷ record { keyword = codes "epair"; value = pair }
+    ∷ record { keyword = codes "emol"; value = molecular }
+    ∷ record { keyword = codes "etotal"; value = pair +ℤ molecular +ℤ kinetic_share (pos 0) 2 }
+    ∷ record { keyword = codes "press"; value = pressure (pos 0) virial sides }
+    ∷ []
 
 abbrev pub numbers_of : Script → Data → List Number
 numbers_of s d = rest_numbers (pair_energy s d) (pair_virial s d) (box_of d)
@@ -113,11 +113,11 @@ phase_name p =
 abbrev pub kind_name : ℕ → List ℕ
 kind_name k =
     cond (k == kind_number fault.Close) (codes "Close")
-      (cond (k == kind_number fault.Bond) (codes "Bond")
-        (cond (k == kind_number fault.Angle) (codes "Angle")
-          (cond (k == kind_number fault.Force) (codes "Force")
-            (cond (k == kind_number fault.Speed) (codes "Speed")
-              (cond (k == kind_number fault.Lost) (codes "Lost") (codes "Image"))))))
+    (cond (k == kind_number fault.Bond) (codes "Bond")
+    (cond (k == kind_number fault.Angle) (codes "Angle")
+    (cond (k == kind_number fault.Force) (codes "Force")
+    (cond (k == kind_number fault.Speed) (codes "Speed")
+    (cond (k == kind_number fault.Lost) (codes "Lost") (codes "Image"))))))
 
 -- the line of a fault at a step
 unfoldable pub fault_text : FaultKey → ℕ → List ℕ

@@ -3,6 +3,7 @@
 #![tactic(auto)]
 
 mod fault;
+mod fetch;
 mod first_form;
 mod forms;
 mod input;
@@ -11,6 +12,8 @@ mod rest;
 mod run;
 mod send;
 mod status;
+mod top;
 mod words;
 
 pub use status::Status;
+pub use top::{run_surely, run_words};

@@ -30,7 +30,9 @@ pub(crate) struct RunTexts {
 impl Stop {
     /// How a run ends that stopped so.
     fn status(self) -> Status
-        ensures { result ≡ status_after self }
+        ensures is { result ≡ status_after self }
+        ensures no_usage { (place : ℕ) → result ≡ Status.Usage place → ⊥ }
+        ensures no_read { result ≡ Status.ReadFault → ⊥ }
     {
         match self {
             Stop::WriteFault => Status::WriteFault,
@@ -96,6 +98,8 @@ fn run_term<P: Press>(
     ensures ends { EndsAs result (P.sent press.old) (run_with script.now input.now.data None) (P.sent press.new) }
     ensures write { result ≡ Status.WriteFault → Rose (P.faults press.old) (P.faults press.new) }
     ensures kept { P.faults press.old ≤ P.faults press.new }
+    ensures no_usage { (place : ℕ) → result ≡ Status.Usage place → ⊥ }
+    ensures no_read { result ≡ Status.ReadFault → ⊥ }
 {
     let texts = match run_texts(alloc, script, input, term) {
         Ok(texts) => texts,
@@ -112,6 +116,8 @@ fn run_close<P: Press>(alloc: Global, press: &mut P) -> Status
     ensures ends { EndsAs result (P.sent press.old) close_run (P.sent press.new) }
     ensures write { result ≡ Status.WriteFault → Rose (P.faults press.old) (P.faults press.new) }
     ensures kept { P.faults press.old ≤ P.faults press.new }
+    ensures no_usage { (place : ℕ) → result ≡ Status.Usage place → ⊥ }
+    ensures no_read { result ≡ Status.ReadFault → ⊥ }
 {
     let key = FaultKey::new(FaultPhase::Forces.number(), FaultKind::Close.number(), 1, 2);
     let text = match fault_text(alloc, &key, 0) {
@@ -136,6 +142,8 @@ pub(crate) fn run_pair<P: Press, L: Ledger>(
     ensures ends { EndsAs result (P.sent press.old) (run_of script.now input.now.data) (P.sent press.new) }
     ensures write { result ≡ Status.WriteFault → Rose (P.faults press.old) (P.faults press.new) }
     ensures kept { P.faults press.old ≤ P.faults press.new }
+    ensures no_usage { (place : ℕ) → result ≡ Status.Usage place → ⊥ }
+    ensures no_read { result ≡ Status.ReadFault → ⊥ }
 {
     let table = match table_of(alloc, script) {
         Ok(table) => table,

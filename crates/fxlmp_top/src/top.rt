@@ -1,0 +1,156 @@
+//! The top call.
+ghost use Rattle.std.specs.Prelude.{◌≡◌, ◌≤◌, ◌↔◌, ℕ, List, Some, Ok, Err, None};
+ghost use Rattle.outside.specs.Stock.{content, Rose};
+ghost use Rattle.outside.specs.declared.files.File.{File};
+ghost use Rattle.fxlmp_top.specs.Ends.{EndsAs, IsComplete, IsSerialStatus, SendsAll, SendsPart};
+ghost use Rattle.fxlmp_top.specs.FirstForm.{IsSoundScript};
+ghost use Rattle.fxlmp_top.specs.Serial.{run_file, run_text, serial, up_to};
+ghost use Rattle.fxlmp_top.specs.Words.{script_name};
+
+use crate::fetch::fetch;
+use crate::first_form::{Script, read_data, read_script};
+use crate::run::run_pair;
+use crate::status::Status;
+use crate::words::script_name;
+use box_geo::limits::MAX_SCRIPT_BYTES;
+use fx_num::{Steps, Text};
+use outside::{MAX_FETCHED, Press, Shelf, SurePress, SureShelf};
+use std::alloc::Global;
+use std::sync::ledger::Ledger;
+
+/// Runs a script over its data file.
+fn run_script<S: Shelf, P: Press, L: Ledger>(
+    alloc: Global,
+    script: &Script,
+    shelf: &mut S,
+    press: &mut P,
+    steps: &mut Steps<L>,
+) -> Status
+    requires { IsSoundScript script.now }
+    ensures ends { (files : List File) → S.stock shelf.old ≡ Some files → EndsAs result (P.sent press.old) (run_file script.now (up_to MAX_FETCHED (content files script.now.input))) (P.sent press.new) }
+    ensures read { result ≡ Status.ReadFault → Rose (S.faults shelf.old) (S.faults shelf.new) }
+    ensures write { result ≡ Status.WriteFault → Rose (P.faults press.old) (P.faults press.new) }
+    ensures no_usage { (place : ℕ) → result ≡ Status.Usage place → ⊥ }
+    ensures stays { S.stock shelf.new ≡ S.stock shelf.old }
+    ensures faults_kept { S.faults shelf.old ≤ S.faults shelf.new }
+    ensures absent_kept { S.absent shelf.old ≤ S.absent shelf.new }
+    ensures write_kept { P.faults press.old ≤ P.faults press.new }
+{
+    let text = match fetch(alloc, shelf, &script.input, MAX_FETCHED) {
+        Ok(text) => text,
+        Err(miss) => return miss.status(),
+    };
+    match read_data(alloc, &text, script.cutoff) {
+        Ok(Some(input)) => run_pair(alloc, script, &input, press, steps),
+        Ok(None) => Status::NotBuilt,
+        Err(_) => Status::NoMemory,
+    }
+}
+
+/// Runs the script of this name.
+fn run_named<S: Shelf, P: Press, L: Ledger>(
+    alloc: Global,
+    name: &Text,
+    shelf: &mut S,
+    press: &mut P,
+    steps: &mut Steps<L>,
+) -> Status
+    ensures ends { (files : List File) → S.stock shelf.old ≡ Some files → EndsAs result (P.sent press.old) (run_text files (up_to MAX_SCRIPT_BYTES (content files name.now))) (P.sent press.new) }
+    ensures read { result ≡ Status.ReadFault → Rose (S.faults shelf.old) (S.faults shelf.new) }
+    ensures write { result ≡ Status.WriteFault → Rose (P.faults press.old) (P.faults press.new) }
+    ensures no_usage { (place : ℕ) → result ≡ Status.Usage place → ⊥ }
+    ensures stays { S.stock shelf.new ≡ S.stock shelf.old }
+    ensures faults_kept { S.faults shelf.old ≤ S.faults shelf.new }
+    ensures absent_kept { S.absent shelf.old ≤ S.absent shelf.new }
+    ensures write_kept { P.faults press.old ≤ P.faults press.new }
+{
+    let text = match fetch(alloc, shelf, name, MAX_SCRIPT_BYTES as u64) {
+        Ok(text) => text,
+        Err(miss) => return miss.status(),
+    };
+    match read_script(alloc, &text) {
+        Ok(Some(script)) => run_script(alloc, &script, shelf, press, steps),
+        Ok(None) => Status::NotBuilt,
+        Err(_) => Status::NoMemory,
+    }
+}
+
+/// The top call under one clause: it ends as the serial meaning.
+#[tactic(auto, unfolding(crate::specs::Serial::serial))]
+fn run<S: Shelf, P: Press, L: Ledger>(
+    alloc: Global,
+    words: &[Text],
+    shelf: &mut S,
+    press: &mut P,
+    steps: &mut Steps<L>,
+) -> Status
+    ensures ends { (files : List File) → S.stock shelf.old ≡ Some files → EndsAs result (P.sent press.old) (serial files words.now) (P.sent press.new) }
+    ensures read { result ≡ Status.ReadFault → Rose (S.faults shelf.old) (S.faults shelf.new) }
+    ensures write { result ≡ Status.WriteFault → Rose (P.faults press.old) (P.faults press.new) }
+    ensures usage { (place : ℕ) → (result ≡ Status.Usage place) ↔ (script_name words.now ≡ Err place) }
+    ensures untouched { (place : ℕ) → script_name words.now ≡ Err place → (P.sent press.new ≡ P.sent press.old) × (P.faults press.new ≡ P.faults press.old) × (S.faults shelf.new ≡ S.faults shelf.old) × (S.absent shelf.new ≡ S.absent shelf.old) }
+    ensures stays { S.stock shelf.new ≡ S.stock shelf.old }
+    ensures read_kept { S.faults shelf.old ≤ S.faults shelf.new }
+    ensures absent_kept { S.absent shelf.old ≤ S.absent shelf.new }
+    ensures write_kept { P.faults press.old ≤ P.faults press.new }
+{
+    match script_name(words) {
+        Ok(name) => run_named(alloc, name, shelf, press, steps),
+        Err(place) => Status::Usage { place },
+    }
+}
+
+/// Does all that the program does: from the words of the command line and the files on the shelf to
+/// the pieces of the serial meaning, put on the press, and its status.
+///
+/// The serial meaning of the words over files is `serial files words`; it sums all pairs of atoms,
+/// and knows nothing of this code. Where the shelf tells its files, the status and the pieces are
+/// those of the serial meaning, unless a fault or want of memory ended the call: then a front of the
+/// pieces was sent, and after a failure of the press the next one cut.
+pub fn run_words<S: Shelf, P: Press, L: Ledger>(
+    alloc: Global,
+    words: &[Text],
+    shelf: &mut S,
+    press: &mut P,
+    steps: &mut Steps<L>,
+) -> Status
+    // The headline: the status and the pieces are the serial ones.
+    ensures serial_status { (files : List File) → S.stock shelf.old ≡ Some files → IsSerialStatus result (serial files words.now) }
+    ensures serial_pieces { (files : List File) → S.stock shelf.old ≡ Some files → SendsAll result (P.sent press.old) (serial files words.now) (P.sent press.new) }
+
+    // What a fault or want of memory leaves, and when a fault may be answered.
+    ensures prefix { (files : List File) → S.stock shelf.old ≡ Some files → SendsPart result (P.sent press.old) (serial files words.now) (P.sent press.new) }
+    ensures read_fault { result ≡ Status.ReadFault → Rose (S.faults shelf.old) (S.faults shelf.new) }
+    ensures write_fault { result ≡ Status.WriteFault → Rose (P.faults press.old) (P.faults press.new) }
+    ensures complete { (files : List File) → S.stock shelf.old ≡ Some files
+        → (Rose (S.faults shelf.old) (S.faults shelf.new) → ⊥) → (Rose (P.faults press.old) (P.faults press.new) → ⊥)
+        → IsComplete result (P.sent press.old) (serial files words.now) (P.sent press.new) }
+
+    // A faulty command line is told from the words alone, before any call on an object.
+    ensures usage { (place : ℕ) → (result ≡ Status.Usage place) ↔ (script_name words.now ≡ Err place) }
+    ensures usage_untouched { (place : ℕ) → script_name words.now ≡ Err place → (P.sent press.new ≡ P.sent press.old) × (P.faults press.new ≡ P.faults press.old) × (S.faults shelf.new ≡ S.faults shelf.old) × (S.absent shelf.new ≡ S.absent shelf.old) }
+
+    // Nothing is put where a file is missing, too long or not in a form that is built.
+    ensures not_built { (files : List File) → S.stock shelf.old ≡ Some files → result ≡ Status.NotBuilt → P.sent press.new ≡ P.sent press.old }
+
+    ensures stock_stays { S.stock shelf.new ≡ S.stock shelf.old }
+    ensures read_kept { S.faults shelf.old ≤ S.faults shelf.new }
+    ensures absent_kept { S.absent shelf.old ≤ S.absent shelf.new }
+    ensures write_kept { P.faults press.old ≤ P.faults press.new }
+{
+    run(alloc, words, shelf, press, steps)
+}
+
+/// The top call over objects that never fail: its status is the serial one with all pieces, or
+/// memory was wanting.
+pub fn run_surely<L: Ledger>(
+    alloc: Global,
+    words: &[Text],
+    shelf: &mut SureShelf,
+    press: &mut SurePress,
+    steps: &mut Steps<L>,
+) -> Status
+    ensures complete { IsComplete result (Some press.old) (serial shelf.old words.now) (Some press.new) }
+{
+    run_words(alloc, words, shelf, press, steps)
+}

@@ -5,7 +5,7 @@ use Rattle.std.specs.Fmt.{digits}
 use Rattle.fx_num.specs.Rounding.{nearest_of, div_rounded}
 use Rattle.fx_num.specs.Decimal.{read_number, decimal_of, decimal_units}
 use Rattle.fx_num.specs.Print.{fix_text}
-use Rattle.box_geo.specs.Sides.{near_image, volume_of}
+use Rattle.box_geo.specs.Sides.{box_refusal, near_image, volume_of}
 use Rattle.pair_lj.specs.PairTerm.{inverse_square, sixth_power, twelfth_power, strength, energy_at, force_along, weighted_term, pair_term}
 use Rattle.computes.specs.Quantities.{temperature, kinetic_share, energy_share, pressure}
 use Rattle.thermo_text.specs.Thermo.{header_text, line_text, footer_text}
@@ -43,12 +43,32 @@ at_two : serial (files_with (codes "4") (codes "6")) words ≡ record {
       ++ log_text false (codes "Neighbor pairs 1 builds 0\n");
   status = Done;
 }
-unfolding script data_with files_with words header serial script_of data_of words_of is_input_name read_number decimal_of decimal_units nearest_of div_rounded fix_text near_image volume_of inverse_square sixth_power twelfth_power strength energy_at force_along weighted_term pair_term temperature kinetic_share energy_share pressure header_text line_text footer_text digits
+unfolding script data_with files_with words header serial script_of data_of words_of is_input_name read_number decimal_of decimal_units nearest_of div_rounded box_refusal fix_text near_image volume_of inverse_square sixth_power twelfth_power strength energy_at force_along weighted_term pair_term temperature kinetic_share energy_share pressure header_text line_text footer_text digits
 at_two = refl
+
+at_one : serial (files_with (codes "4") (codes "5")) words ≡ record {
+    pieces =
+      log_text true header
+        ++ log_text false (codes "         0           0.00000000           0.00000000           0.00000000           0.00000000           0.00800002\n")
+        ++ log_text false (codes "Neighbor pairs 1 builds 0\n");
+    status = Done;
+  }
+unfolding script data_with files_with words header serial script_of data_of words_of is_input_name read_number decimal_of decimal_units nearest_of div_rounded box_refusal fix_text near_image volume_of inverse_square sixth_power twelfth_power strength energy_at force_along weighted_term pair_term temperature kinetic_share energy_share pressure header_text line_text footer_text digits
+at_one = refl
+
+at_cutoff : serial (files_with (codes "3") (codes "5.5")) words ≡ record {
+    pieces =
+      log_text true header
+        ++ log_text false (codes "         0           0.00000000           0.00000000           0.00000000           0.00000000           0.00000000\n")
+        ++ log_text false (codes "Neighbor pairs 1 builds 0\n");
+    status = Done;
+  }
+unfolding script data_with files_with words header serial script_of data_of words_of is_input_name read_number decimal_of decimal_units nearest_of div_rounded box_refusal fix_text near_image volume_of inverse_square sixth_power twelfth_power strength energy_at force_along weighted_term pair_term temperature kinetic_share energy_share pressure header_text line_text footer_text digits
+at_cutoff = refl
 
 too_close : serial (files_with (codes "5") (codes "5.2")) words ≡ record {
   pieces = log_text true (codes "ERROR: Close 1 2 in forces at step 0\n");
   status = RangeFault record { phase = 2; kind = 1; a = 1; b = 2 } 0;
 }
-unfolding script data_with files_with words serial script_of data_of words_of is_input_name read_number decimal_of decimal_units nearest_of div_rounded near_image inverse_square sixth_power twelfth_power strength energy_at force_along weighted_term pair_term fault_text digits
+unfolding script data_with files_with words serial script_of data_of words_of is_input_name read_number decimal_of decimal_units nearest_of div_rounded box_refusal near_image inverse_square sixth_power twelfth_power strength energy_at force_along weighted_term pair_term fault_text digits
 too_close = refl

@@ -2,9 +2,10 @@
 //! and exits with the number of the run's status.
 #![tactic(auto)]
 
-ghost use Rattle.std.specs.Prelude.{◌≡◌, ◌≢◌, ◌<◌};
+ghost use Rattle.std.specs.Prelude.{◌≡◌, ◌≢◌, ◌<◌, ◌↔◌, ℕ, Err};
 ghost use Rattle.std.specs.Process.{exit_status};
 ghost use Rattle.fxlmp_top.specs.Ends.{number_of};
+ghost use Rattle.fxlmp_top.specs.Words.{script_name};
 ghost use Rattle.fxlmp.specs.Request.{IsPrinted, request_of};
 
 mod arguments;
@@ -28,6 +29,7 @@ fn run<L: Ledger>(rt: &(impl Files + Print + AllocGlobal), words: &[Text], blank
     requires name { blank.name ≡ L.name }
     requires parts { blank.parts ≡ L.parts }
     requires some { 0 < blank.parts }
+    ensures usage { (place : ℕ) → (result ≡ Status.Usage place) ↔ (script_name words.now ≡ Err place) }
 {
     let mut shelf = FileShelf::new(rt);
     let mut press = FilePress::new(rt);
@@ -48,6 +50,7 @@ fn print_text(rt: &impl Print, text: impl Display + Drop) -> Status
 /// Does what the words of the command line ask for: a text is printed with no run.
 fn answer(rt: &(impl Files + Print + AllocGlobal), words: &[Text]) -> Status
     ensures printed { request_of words.now ≢ Request.Run → IsPrinted result }
+    ensures usage { request_of words.now ≡ Request.Run → (place : ℕ) → (result ≡ Status.Usage place) ↔ (script_name words.now ≡ Err place) }
 {
     match request_of(words) {
         Request::Help => print_text(rt, Help),

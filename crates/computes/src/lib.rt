@@ -6,3 +6,6 @@ mod pressure;
 
 pub use energy::share;
 pub use pressure::press;
+
+#[cfg(test)]
+mod tests;

@@ -1,8 +1,8 @@
 -- How large a pressure's dividend is.
-use Rattle.std.proofs.Common.{◌≡◌, ◌+◌, ◌*◌, ◌^◌, ◌<◌, ◌≤◌, ℕ, ℤ, pos, ◌+ℤ◌, ◌*ℤ◌, unsigned_abs, arith, refl, sym, ap, ◌∙◌}
+use Rattle.std.proofs.Common.{◌*◌, ◌^◌, ◌<◌, ◌≤◌, ℕ, ℤ, pos, ◌+ℤ◌, ◌*ℤ◌, unsigned_abs, arith}
 use Rattle.std.proofs.lemmas.Int.{ints}
 use Rattle.std.proofs.lemmas.Nat.{pow_pos}
-use Rattle.fx_num.specs.Rounding.{nearest_of, shr_rounded}
+use Rattle.fx_num.specs.Rounding.{shr_rounded}
 use Rattle.fx_num.proofs.RoundingLemmas.{nearest_of-le, unsigned_abs-div_rounded}
 
 -- a shift divides the bound

@@ -1,7 +1,7 @@
 -- Thermodynamic quantities, each rounded once; for the pressure s and w are rounded before, to units of 2^-24 (after the manual, with roundings of our own).
 --
 -- s is the sum of mass times squared velocity, in units of 2^-72; w the sum of displacement times force, in units of 2^-48.
-use Rattle.std.specs.Prelude.{◌+◌, ◌-◌, ◌*◌, ◌^◌, ◌==◌, Bool, cond, ℕ, ℤ, pos, ◌+ℤ◌, ◌*ℤ◌}
+use Rattle.std.specs.Prelude.{◌-◌, ◌*◌, ◌^◌, ◌==◌, cond, ℕ, ℤ, pos, ◌+ℤ◌, ◌*ℤ◌}
 use Rattle.fx_num.specs.Rounding.{div_rounded, shr_rounded}
 use Rattle.box_geo.specs.declared.sim_box.Sides.{Sides}
 use Rattle.box_geo.specs.Sides.{volume_of}

@@ -47,22 +47,22 @@ unfolding script data_with files_with words header serial script_of data_of word
 at_two = refl
 
 at_one : serial (files_with (codes "4") (codes "5")) words ≡ record {
-    pieces =
+  pieces =
       log_text true header
-        ++ log_text false (codes "         0           0.00000000           0.00000000           0.00000000           0.00000000           0.00800002\n")
-        ++ log_text false (codes "Neighbor pairs 1 builds 0\n");
-    status = Done;
-  }
+      ++ log_text false (codes "         0           0.00000000           0.00000000           0.00000000           0.00000000           0.00800002\n")
+      ++ log_text false (codes "Neighbor pairs 1 builds 0\n");
+  status = Done;
+}
 unfolding script data_with files_with words header serial script_of data_of words_of is_input_name read_number decimal_of decimal_units nearest_of div_rounded box_refusal fix_text near_image volume_of inverse_square sixth_power twelfth_power strength energy_at force_along weighted_term pair_term temperature kinetic_share energy_share pressure header_text line_text footer_text digits
 at_one = refl
 
 at_cutoff : serial (files_with (codes "3") (codes "5.5")) words ≡ record {
-    pieces =
+  pieces =
       log_text true header
-        ++ log_text false (codes "         0           0.00000000           0.00000000           0.00000000           0.00000000           0.00000000\n")
-        ++ log_text false (codes "Neighbor pairs 1 builds 0\n");
-    status = Done;
-  }
+      ++ log_text false (codes "         0           0.00000000           0.00000000           0.00000000           0.00000000           0.00000000\n")
+      ++ log_text false (codes "Neighbor pairs 1 builds 0\n");
+  status = Done;
+}
 unfolding script data_with files_with words header serial script_of data_of words_of is_input_name read_number decimal_of decimal_units nearest_of div_rounded box_refusal fix_text near_image volume_of inverse_square sixth_power twelfth_power strength energy_at force_along weighted_term pair_term temperature kinetic_share energy_share pressure header_text line_text footer_text digits
 at_cutoff = refl
 

@@ -19,9 +19,9 @@ fxlmp runs LAMMPS input scripts of molecular dynamics in whole-number
 arithmetic: every length, velocity, force and energy is a whole multiple of
 2^-24. Units are those of `units lj`.
 
-  FILE   a file in the current folder, by a name of 1 to 255 printable ASCII
-         characters without blanks, quotes, * and %. It is neither log.lammps
-         nor a compressed file (.gz, .bz2, .xz, .zst, .lz4).
+  FILE   the script, by its name or by a path from the current folder: 1 to 255
+         printable ASCII characters without blanks, quotes, * and %. It is
+         neither log.lammps nor a compressed file (.gz, .bz2, .xz, .zst, .lz4).
 
 The log goes to log.lammps in the current folder, which is written anew, and
 to the standard output.

@@ -1,5 +1,5 @@
 -- What follows from how a call ends.
-use Rattle.std.proofs.Common.{◌≡◌, ◌++◌, [], ◌∷◌, List, ℕ, Option, Some, None, Result, Ok, Err, refl, sym, ap, ◌∙◌}
+use Rattle.std.proofs.Common.{◌≡◌, [], List, ℕ, Option, Some, None, Result, Ok, Err, refl, ap, ◌∙◌}
 use Rattle.outside.specs.declared.files.File.{File}
 use Rattle.outside.specs.declared.press.Piece.{Piece}
 use Rattle.outside.specs.declared.shelf.TheConstants.{MAX_FETCHED}

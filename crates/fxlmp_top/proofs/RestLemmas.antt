@@ -1,5 +1,5 @@
 -- The numbers of two atoms at rest.
-use Rattle.std.proofs.Common.{◌≡◌, ◌+◌, ◌*◌, ◌^◌, ◌<◌, ◌≤◌, ◌++◌, [], ◌∷◌, ℕ, ℤ, List, pos, ◌+ℤ◌, unsigned_abs, arith, refl, sym, ap, ◌∙◌, lit≤}
+use Rattle.std.proofs.Common.{◌≡◌, ◌*◌, ◌^◌, ◌<◌, ◌≤◌, ◌++◌, [], ◌∷◌, ℕ, ℤ, List, pos, ◌+ℤ◌, unsigned_abs, arith, refl, sym, ap, ◌∙◌, lit≤}
 use Rattle.std.proofs.lemmas.Int.{ints}
 use Rattle.std.specs.Prelude.{codes, Bool, true, false, cond, nat_le, Option, Some, None, Result, Ok, Err, IfOk, IfSome, ◌-ℤ◌, ◌*ℤ◌}
 use Rattle.std.proofs.Common.{subst}
@@ -16,11 +16,10 @@ use Rattle.fx_num.specs.Rounding.{nearest_of, div_rounded}
 use Rattle.fx_num.specs.declared.numbers.Number.{Number}
 use Rattle.box_geo.specs.declared.sim_box.Sides.{Sides}
 use Rattle.computes.specs.Quantities.{temperature, kinetic_share, energy_share, pressure}
-use Rattle.std.specs.Prelude.{IsSomeAnd}
 use Rattle.std.proofs.lemmas.List.Elements.{All-from_recursion}
 use Rattle.thermo_text.specs.Thermo.{HasNumber, HasEachNumber, style_one}
 use Rattle.fxlmp_top.specs.Rest.{HasSmallVirial, close_run, first_pair, pushed_numbers, script_term}
-use Rattle.fxlmp_top.specs.Serial.{Run, close_key, energy_of, least_key, numbers_of, pair_energy, pair_virial, rest_numbers, run_of, run_with, term_of, virial_of}
+use Rattle.fxlmp_top.specs.Serial.{close_key, energy_of, least_key, numbers_of, pair_energy, pair_virial, rest_numbers, run_of, run_with, term_of, virial_of}
 
 pub no_energy : energy_share (pos 0) 2 ≡ pos 0
 unfolding energy_share div_rounded nearest_of

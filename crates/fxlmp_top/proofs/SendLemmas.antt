@@ -1,8 +1,7 @@
 -- Pieces sent one call after another.
-use Rattle.std.specs.Prelude.{◌≡◌, ◌++◌, [], ◌∷◌, OnOk, IfErr, Option, Some, None, Result, Ok, Err, List}
-use Rattle.std.proofs.Common.{refl, sym, ap, ◌∙◌}
+use Rattle.std.specs.Prelude.{◌≡◌, ◌++◌, Option, Result, Ok, Err, List}
 use Rattle.outside.specs.declared.press.Piece.{Piece}
-use Rattle.outside.specs.Sent.{plus, SendsFront, SendsCut}
+use Rattle.outside.specs.Sent.{plus}
 use Rattle.outside.proofs.Sending.{plus_after, SendsFront-more, SendsFront-after, SendsCut-more, SendsCut-after}
 use Rattle.fxlmp_top.specs.declared.send.Stop.{Stop}
 use Rattle.fxlmp_top.specs.declared.send.Stop.TheVariants as stop

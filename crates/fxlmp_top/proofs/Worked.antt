@@ -1,5 +1,5 @@
 -- Worked runs: the serial meaning of whole texts, against logs that were worked out by hand.
-use Rattle.std.proofs.Common.{◌≡◌, ◌++◌, ◌∷◌, [], ℕ, ℤ, List, Bool, true, false, pos, Some, Ok, refl}
+use Rattle.std.proofs.Common.{◌≡◌, ◌++◌, ◌∷◌, [], ℕ, List, true, false, refl}
 use Rattle.std.specs.Prelude.{codes}
 use Rattle.std.specs.Fmt.{digits}
 use Rattle.fx_num.specs.Rounding.{nearest_of, div_rounded}
@@ -10,13 +10,11 @@ use Rattle.pair_lj.specs.PairTerm.{inverse_square, sixth_power, twelfth_power, s
 use Rattle.computes.specs.Quantities.{temperature, kinetic_share, energy_share, pressure}
 use Rattle.thermo_text.specs.Thermo.{header_text, line_text, footer_text}
 use Rattle.outside.specs.declared.files.File.{File}
-use Rattle.outside.specs.declared.press.Piece.{Piece}
-use Rattle.outside.specs.Sent.{piece_of}
-use Rattle.fxlmp_top.specs.declared.status.Status.TheVariants.{Done, RangeFault, Usage, NotBuilt}
+use Rattle.fxlmp_top.specs.declared.status.Status.TheVariants.{Done, RangeFault}
 use Rattle.fxlmp_top.specs.Forms.{words_of}
 use Rattle.fxlmp_top.specs.FirstForm.{script_of, data_of}
 use Rattle.fxlmp_top.specs.Names.{is_input_name}
-use Rattle.fxlmp_top.specs.Serial.{Run, serial, fault_text, log_text}
+use Rattle.fxlmp_top.specs.Serial.{serial, fault_text, log_text}
 
 script : List ℕ
 script = codes "units lj\natom_style atomic\nread_data d.txt\npair_style lj/cut 2.5\npair_coeff 1 1 1.0 1.0\nrun 0\n"

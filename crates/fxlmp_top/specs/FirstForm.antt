@@ -1,7 +1,7 @@
 -- The first form of a script and of a data file: two atoms and `run 0`.
 --
 -- In both each line ends by a line feed alone, and its words are parted by one space.
-use Rattle.std.specs.Prelude.{◌≡◌, ◌*◌, ◌^◌, ◌&&◌, Bool, true, false, cond, ℕ, ℤ, pos, ◌+ℤ◌, ◌*ℤ◌, ◌<ℤ◌, ◌≤ℤ◌, int_lt, int_le, is_none, Option, Some, None, Result, Ok, Err, List, [], ◌∷◌, codes}
+use Rattle.std.specs.Prelude.{◌&&◌, Bool, true, cond, ℕ, ℤ, pos, ◌+ℤ◌, ◌*ℤ◌, ◌<ℤ◌, ◌≤ℤ◌, int_lt, int_le, is_none, Option, Some, None, Result, Ok, Err, List, [], ◌∷◌, codes}
 use Rattle.fx_num.specs.Decimal.{read_number}
 use Rattle.fx_num.specs.declared.decimal.NumError.{NumError}
 use Rattle.box_geo.specs.declared.limits.TheConstants.{DEFAULT_SKIN, MAX_CUTOFF, MAX_EPSILON, MAX_MASS, MAX_SIGMA, MIN_MASS}

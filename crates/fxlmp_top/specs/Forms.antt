@@ -1,5 +1,5 @@
 -- Forms of texts. A form is a text in which `%` stands for a word, which may be empty, and `*` for the rest of a line; all else stands for itself.
-use Rattle.std.specs.Prelude.{◌≡◌, ◌==◌, ◌&&◌, Bool, true, false, not, cond, ℕ, Option, Some, None, List, [], ◌∷◌, ◌++◌, map, option_and_then, take, drop}
+use Rattle.std.specs.Prelude.{◌==◌, ◌&&◌, Bool, not, cond, ℕ, Option, Some, None, List, [], ◌∷◌, ◌++◌, map, option_and_then, take, drop}
 use Rattle.std.specs.List.{prefix_len}
 use Rattle.std.specs.Option.{option_map}
 

@@ -1,5 +1,5 @@
 -- Names of files.
-use Rattle.std.specs.Prelude.{◌≡◌, ◌==◌, ◌&&◌, ◌||◌, Bool, true, false, not, ℕ, nat_le, nat_eq, List, [], ◌∷◌, length, codes}
+use Rattle.std.specs.Prelude.{◌==◌, ◌&&◌, ◌||◌, Bool, not, ℕ, nat_le, nat_eq, List, length, codes}
 use Rattle.std.specs.List.{list_all, ends_with}
 use Rattle.std.specs.Str.{bytes_eq}
 

@@ -1,5 +1,5 @@
 -- What the parts of a run of two atoms at rest rest on.
-use Rattle.std.specs.Prelude.{◌≡◌, ◌^◌, ◌≤◌, unsigned_abs, Option, Result, ℤ, pos, ◌*ℤ◌, ◌<ℤ◌, ◌≤ℤ◌, IsSomeAnd, true, List, [], ◌∷◌, codes}
+use Rattle.std.specs.Prelude.{◌≡◌, ◌^◌, ◌≤◌, unsigned_abs, Option, Result, ℤ, pos, IsSomeAnd, true, List, [], ◌∷◌, codes}
 use Rattle.fx_num.specs.declared.numbers.Number.{Number}
 use Rattle.box_geo.specs.Sides.{near_image}
 use Rattle.pair_lj.specs.declared.table.PairTable.{PairTable}

@@ -1,5 +1,5 @@
 -- The serial meaning of a run: from the words and the files to the pieces and the status. It knows nothing of the code, and sums all pairs of atoms.
-use Rattle.std.specs.Prelude.{◌≡◌, ◌+◌, ◌*◌, ◌^◌, ◌==◌, Bool, true, false, cond, nat_lt, nat_le, ℕ, ℤ, pos, ◌+ℤ◌, unsigned_abs, Option, Some, None, Result, Ok, Err, List, [], ◌∷◌, ◌++◌, length, flat_map, count_by, codes}
+use Rattle.std.specs.Prelude.{◌+◌, ◌*◌, ◌^◌, ◌==◌, Bool, true, false, cond, nat_lt, nat_le, ℕ, ℤ, pos, ◌+ℤ◌, unsigned_abs, Option, Some, None, Result, Ok, Err, List, [], ◌∷◌, ◌++◌, length, flat_map, count_by, codes}
 use Rattle.std.specs.Fmt.{decimal}
 use Rattle.fx_num.specs.declared.numbers.Number.{Number}
 use Rattle.box_geo.specs.declared.limits.TheConstants.{DEFAULT_SKIN, MAX_SCRIPT_BYTES}

@@ -1,4 +1,3 @@
-use Rattle.std.proofs.Common.{◌∙◌}
 use Rattle.fxlmp_top.proofs.RestLemmas.{small_virial}
 use Rattle.fxlmp_top.proofs.rest.term.Goals as goal
 

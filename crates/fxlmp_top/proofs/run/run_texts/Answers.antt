@@ -1,12 +1,11 @@
-use Rattle.std.proofs.Common.{◌≡◌, ◌∙◌, ℤ, List, pos, Ok, FitsSigned, to_z, of_z, rules, sym, ap}
+use Rattle.std.proofs.Common.{◌≡◌, ◌∙◌, ℤ, List, Ok, FitsSigned, to_z, of_z, rules, ap}
 use Rattle.std.specs.Int.{w64, w128}
 use Rattle.std.proofs.lemmas.Int.{to_z-of_z}
 use Rattle.fx_num.specs.declared.numbers.Number.{Number}
 use Rattle.box_geo.specs.declared.sim_box.Sides.{Sides}
 use Rattle.thermo_text.specs.declared.columns.Keyword.{Keyword}
 use Rattle.thermo_text.specs.Thermo.{header_text, line_text, footer_text, style_one}
-use Rattle.fxlmp_top.specs.FirstForm.{box_of}
-use Rattle.fxlmp_top.specs.Serial.{energy_of, virial_of, numbers_of, neighbours, rest_numbers}
+use Rattle.fxlmp_top.specs.Serial.{energy_of, virial_of, numbers_of, rest_numbers}
 use Rattle.fxlmp_top.proofs.RestLemmas.{run_numbers}
 use Rattle.fxlmp_top.proofs.run.run_texts.Goals as goal
 

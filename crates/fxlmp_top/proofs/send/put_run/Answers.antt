@@ -1,5 +1,3 @@
-use Rattle.std.proofs.Common.{true, false}
-use Rattle.fxlmp_top.specs.Serial.{log_text}
 use Rattle.fxlmp_top.proofs.SendLemmas.{sends_then, sends_stop}
 use Rattle.fxlmp_top.proofs.send.put_run.Goals as goal
 

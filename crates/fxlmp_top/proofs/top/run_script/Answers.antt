@@ -1,8 +1,7 @@
-use Rattle.std.proofs.Common.{◌≡◌, ◌<◌, ◌∙◌, List, ℕ, ℤ, pos, ◌<ℤ◌, ◌≤ℤ◌, Option, Some, FitsSigned, to_z, of_z, arith, sym, ap, subst}
+use Rattle.std.proofs.Common.{◌≡◌, ◌∙◌, List, ℕ, ℤ, pos, ◌<ℤ◌, ◌≤ℤ◌, Option, Some, FitsSigned, to_z, of_z, arith, sym, ap, subst}
 use Rattle.std.specs.Int.{w64}
 use Rattle.std.proofs.lemmas.Int.{ints, to_z-of_z, fits_signed_from_abs}
 use Rattle.box_geo.specs.declared.limits.TheConstants.{MAX_CUTOFF}
-use Rattle.outside.specs.declared.files.File.{File}
 use Rattle.outside.specs.declared.shelf.TheConstants.{MAX_FETCHED}
 use Rattle.outside.specs.Stock.{content}
 use Rattle.fxlmp_top.specs.Ends.{EndsAs}

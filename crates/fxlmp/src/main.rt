@@ -2,10 +2,11 @@
 //! and exits with the number of the run's status.
 #![tactic(auto)]
 
-ghost use Rattle.std.specs.Prelude.{◌≡◌, ◌≢◌, ◌<◌, ◌↔◌, ℕ, Err};
+ghost use Rattle.std.specs.Prelude.{◌≡◌, ◌≢◌, ◌<◌, ◌↔◌, ℕ, List, Ok, Err};
 ghost use Rattle.std.specs.Process.{exit_status};
 ghost use Rattle.fxlmp_top.specs.Ends.{number_of};
 ghost use Rattle.fxlmp_top.specs.Words.{script_name};
+ghost use Rattle.fxlmp_top.specs.declared.status.Status.{Status};
 ghost use Rattle.fxlmp.specs.Request.{IsPrinted, request_of};
 
 mod arguments;
@@ -14,7 +15,7 @@ mod messages;
 mod tests;
 
 use arguments::{Request, read_words, request_of};
-use fx_num::{Steps, Text};
+use fx_num::{Seq, Steps, Text};
 use fxlmp_top::{Status, run_words};
 use messages::{Help, VERSION, explain};
 use outside_real::{FilePress, FileShelf};
@@ -69,12 +70,24 @@ fn finish(rt: &impl Eprint, words: Option<&[Text]>, status: Status) -> ExitCode
     ExitCode::from(status.number())
 }
 
-fn main(rt: HostRuntime) -> ExitCode {
-    match read_words(&rt) {
+/// Does what was read of the command line, and gives the number to exit with.
+fn exit_of(
+    rt: &(impl Files + Print + Eprint + AllocGlobal),
+    read: Result<Seq<Text>, Status>,
+) -> ExitCode
+    ensures unread { (status : Status) → read ≡ Err status → exit_status result ≡ number_of status }
+    ensures usage { (words : List (List ℕ)) (place : ℕ) → read ≡ Ok words → request_of words ≡ Request.Run → script_name words ≡ Err place → exit_status result ≡ 7 }
+    ensures right { (words : List (List ℕ)) (name : List ℕ) → read ≡ Ok words → request_of words ≡ Request.Run → script_name words ≡ Ok name → exit_status result ≡ 7 → ⊥ }
+{
+    match read {
         Ok(words) => {
-            let status = answer(&rt, words.as_slice());
-            finish(&rt, Some(words.as_slice()), status)
+            let status = answer(rt, words.as_slice());
+            finish(rt, Some(words.as_slice()), status)
         }
-        Err(status) => finish(&rt, None, status),
+        Err(status) => finish(rt, None, status),
     }
+}
+
+fn main(rt: HostRuntime) -> ExitCode {
+    exit_of(&rt, read_words(&rt))
 }

@@ -36,7 +36,11 @@ This version runs scripts of these six lines, and no others:
   run 0
 
 DATA is the data file of two atoms in a periodic box; examples/two-atoms shows
-its lines. In both files one space parts the words, and no line ends with one.
+its lines. In both files one space parts the words, and each line ends with a
+line feed, the last one too. There are no comments, and no empty lines but those
+shown. CUTOFF is above 0 up to 16, EPSILON from 0 to 256, SIGMA above 0 up to 8
+and at most four cutoffs. Each edge of the box is at least twice the sum of
+CUTOFF and 0.3, and both atoms are inside the box.
 
 exit status:
   0   the script was run to its end
@@ -72,7 +76,7 @@ pub(crate) fn explain(rt: &impl Eprint, words: Option<&[Text]>, status: &Status)
         Status::WriteFault => "a file or the standard output cannot be written",
         Status::NoMemory => "out of memory",
         Status::NotBuilt => {
-            "the script or its data file is missing, too long, or in a form that this version does not run yet"
+            "the script or its data file is missing, too long, or in a form that this version does not run yet (fxlmp --help shows the form)"
         }
     };
     eprintln!(rt; "fxlmp: {cause}")
@@ -94,6 +98,15 @@ impl WrongWord<'_> {
         let place = usize::try_from(self.place).ok()?;
         str::from_utf8(self.words?.get(place)?.as_bytes()).ok()
     }
+
+    /// Why a word at the place is wrong.
+    fn reason(&self) -> &'static str {
+        match self.place {
+            0 => "expected -in",
+            1 => "not the name of a script that can be run",
+            _ => "nothing follows the script's name",
+        }
+    }
 }
 
 impl fmt::Display for WrongWord<'_> {
@@ -104,7 +117,13 @@ impl fmt::Display for WrongWord<'_> {
                 f,
                 "the command line cannot be read as UTF-8 text: place {place}"
             ),
-            (_, Some(word)) => write!(f, "wrong word at place {place}, counted from 0: {word:?}"),
+            (_, Some(word)) => {
+                let why = self.reason();
+                write!(
+                    f,
+                    "wrong word at place {place}, counted from 0: {word:?} ({why})"
+                )
+            }
             (_, None) => write!(f, "a word is missing at place {place}, counted from 0"),
         }
     }

@@ -14,7 +14,7 @@ fn a_wrong_word_is_shown_at_its_place(rt: HostRuntime) -> Result<(), Fail> {
         (
             Some(words.as_slice()),
             1,
-            "wrong word at place 1, counted from 0: \"in.\\\"a\\\"\"",
+            "wrong word at place 1, counted from 0: \"in.\\\"a\\\"\" (not the name of a script that can be run)",
         ),
         (
             Some(words.as_slice()),

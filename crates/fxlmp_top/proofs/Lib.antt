@@ -3,3 +3,4 @@ pub mod EndLemmas
 pub mod FormLemmas
 pub mod SendLemmas
 mod Worked
+mod WorkedLimits

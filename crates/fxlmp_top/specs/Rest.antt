@@ -1,4 +1,4 @@
--- What the parts of a run of two atoms at rest rest on.
+-- Facts that the parts of a run of two atoms at rest hand on.
 use Rattle.std.specs.Prelude.{◌≡◌, ◌^◌, ◌≤◌, unsigned_abs, Option, Result, ℤ, pos, IsSomeAnd, true, List, [], ◌∷◌, codes}
 use Rattle.fx_num.specs.declared.numbers.Number.{Number}
 use Rattle.box_geo.specs.Sides.{near_image}
@@ -10,6 +10,9 @@ use Rattle.pair_lj.specs.Table.{AreNumbers, IsFinished, coefficients_at, kinds_o
 use Rattle.fxlmp_top.specs.declared.first_form.Script.{Script}
 use Rattle.fxlmp_top.specs.declared.first_form.Data.{Data}
 use Rattle.fxlmp_top.specs.FirstForm.{box_of}
+use Rattle.box_geo.specs.Fault.{phase_number, kind_number}
+use Rattle.box_geo.specs.declared.fault.FaultPhase.TheVariants.{Forces}
+use Rattle.box_geo.specs.declared.fault.FaultKind.TheVariants as kind
 use Rattle.box_geo.specs.declared.fault.FaultKey.{FaultKey}
 use Rattle.thermo_text.specs.Thermo.{header_text, line_text, footer_text, style_one}
 use Rattle.fxlmp_top.specs.declared.run.RunTexts.{RunTexts}
@@ -57,7 +60,7 @@ pub record AreRunTexts (s : Script) (d : Data) (t : RunTexts) : Type 0 where
 
 -- the fault of atoms 1 and 2
 abbrev pub close_first : FaultKey
-close_first = record { phase = 2; kind = 1; a = 1; b = 2 }
+close_first = record { phase = phase_number Forces; kind = kind_number kind.Close; a = 1; b = 2 }
 
 -- the run that it ends
 abbrev pub close_run : Run

@@ -75,7 +75,7 @@ fn run_named<S: Shelf, P: Press, L: Ledger>(
     }
 }
 
-/// The top call under one clause: it ends as the serial meaning.
+/// The top call, with the serial meaning in one clause, `ends`.
 #[tactic(auto, unfolding(crate::specs::Serial::serial))]
 fn run<S: Shelf, P: Press, L: Ledger>(
     alloc: Global,

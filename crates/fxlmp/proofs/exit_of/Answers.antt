@@ -4,7 +4,6 @@ use Rattle.fxlmp_top.specs.declared.status.Status.TheVariants.{Done, RangeFault,
 use Rattle.fxlmp_top.specs.Ends.{number_of}
 use Rattle.fxlmp_top.specs.Words.{script_name}
 use Rattle.fxlmp.specs.Request.{request_of}
-use Rattle.fxlmp.specs.declared.arguments.Request.{Request}
 use Rattle.fxlmp.proofs.exit_of.Goals as goal
 
 -- two equal reads have the same words

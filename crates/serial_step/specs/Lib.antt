@@ -1,0 +1,4 @@
+pub mod Forces
+pub mod Rebuild
+pub mod Step
+pub mod Wrap

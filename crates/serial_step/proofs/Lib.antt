@@ -1,2 +1,3 @@
 mod Worked
 pub mod ForceLemmas
+pub mod LeastLemmas

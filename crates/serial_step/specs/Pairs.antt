@@ -1,12 +1,12 @@
 -- What the laws of sums over pairs speak of: fields in which a pair has no order, lists of pairs, and what the adds of their terms bring.
-use Rattle.std.specs.Prelude.{◌≡◌, ◌*◌, ◌≤◌, ◌==◌, Bool, false, nat_lt, ℕ, ℤ, Ok, None, IfSome, List, flat_map}
+use Rattle.std.specs.Prelude.{◌≡◌, ◌*◌, ◌≤◌, ◌==◌, ◌⊎◌, Bool, false, nat_lt, ℕ, ℤ, Ok, None, IfSome, List, flat_map}
 use Rattle.std.specs.List.{IsDistinct, filter}
 use Rattle.std.specs.List.Sorted.{IsPermutation}
 use Rattle.box_geo.specs.declared.atoms.Atom.{Atom}
 use Rattle.box_geo.specs.declared.sim_box.Sides.{Sides}
 use Rattle.box_geo.specs.Sides.{near_image, length2}
 use Rattle.sums.specs.Totals.{total, half, into, opposite_adds}
-use Rattle.serial_step.specs.Forces.{Field, force_of, term_of}
+use Rattle.serial_step.specs.Forces.{Field, close_word, energy_of, force_of, term_of, virial_of}
 
 -- neither the coefficients nor the weight depend on the order of a pair
 pub record IsFair (field : Field) : Type 0 where
@@ -25,10 +25,28 @@ LeavesNoTerm field s near = (p : Atom × Atom) → near p ≡ false → term_of 
 abbrev pub AreNearPairs : (Atom × Atom → Bool) → List Atom → List (Atom × Atom) → Type 0
 AreNearPairs near atoms pairs = IsPermutation (filter near (half atoms)) pairs
 
+-- each pair is as it was or turned round
+abbrev pub OnlyTurns : (Atom × Atom → Atom × Atom) → Type 0
+OnlyTurns turn = (p : Atom × Atom) → (turn p ≡ p) ⊎ (turn p ≡ (p.1, p.0))
+
 -- what a list of pairs brings to a word, for one component of the force: each pair adds it to the word of its first atom, and the negative to the word of its second
 abbrev pub brought : Field → Sides → (List ℤ → ℤ) → (Atom → ℕ) → List (Atom × Atom) → ℕ → ℤ
 brought field s component word pairs k =
     total (into k) (flat_map (opposite_adds word (λ a b. component (force_of (term_of field s a b)))) pairs)
+
+-- the energy and the virial of a pair, and the word of its fault, `no_fault` without one
+abbrev pub energy_between : Field → Sides → Atom × Atom → ℤ
+energy_between field s p = energy_of (term_of field s p.0 p.1)
+
+abbrev pub virial_between : Field → Sides → Atom × Atom → ℤ
+virial_between field s p = virial_of (term_of field s p.0 p.1)
+
+abbrev pub word_between : Field → Sides → Atom × Atom → ℕ
+word_between field s p = close_word p.0.id p.1.id (term_of field s p.0 p.1)
+
+-- several lists joined to one
+abbrev pub joined : {X : Type 0} → List (List X) → List X
+joined lists = flat_map (λ list. list) lists
 
 -- no cutoff is beyond the reach
 abbrev pub IsReach : Field → ℕ → Type 0

@@ -1,5 +1,5 @@
 -- Laws of the forces and of the sums over pairs: a term is odd, an atom has none with itself, and no sum depends on the order of a list of pairs.
-use Rattle.std.proofs.Common.{◌≡◌, ◌*◌, ◌<◌, ◌≤◌, ◌==◌, Bool, true, false, ⊎_elim, cond, nat_lt, nat_le, ℕ, zero, suc, ℤ, pos, ◌+ℤ◌, neg_ℤ, Option, Some, None, Result, Ok, Err, IfSome, List, [], ◌∷◌, length, get_or, slice_index_or, map, flat_map, filter, IsPermutation, refl, sym, ap, subst, ◌∙◌, arith, eq-eqb}
+use Rattle.std.proofs.Common.{◌≡◌, ◌⊎◌, inl, inr, ◌*◌, ◌<◌, ◌≤◌, ◌==◌, Bool, true, false, ⊎_elim, cond, nat_lt, nat_le, ℕ, zero, suc, ℤ, pos, ◌+ℤ◌, neg_ℤ, Option, Some, None, Result, Ok, Err, IfSome, List, [], ◌∷◌, length, get_or, slice_index_or, map, flat_map, filter, IsPermutation, refl, sym, ap, subst, ◌∙◌, arith, eq-eqb}
 use Rattle.std.specs.Option.{option_map}
 use Rattle.std.proofs.lemmas.Int.{ints}
 use Rattle.std.proofs.lemmas.Nat.{mul-le}
@@ -20,7 +20,7 @@ use Rattle.sums.specs.Totals.{total, half, into, opposite_adds}
 use Rattle.sums.proofs.Totals.{total-same, total-filter, total-flat_map, total-map, total-IsPermutation}
 use Rattle.sums.proofs.Pairs.{words_from_list, total-at_key}
 use Rattle.serial_step.specs.Forces.{PairNumbers, Field, numbers_of, field_of, term_with, term_apart, term_of, force_of, energy_of, virial_of, force_on, pair_energy, pair_virial, terms_fault, close_word, least}
-use Rattle.serial_step.specs.Pairs.{IsFair, AreApart, LeavesNoTerm, AreNearPairs, brought, OnlyTurns, energy_between, virial_between, word_between, IsReach, is_within}
+use Rattle.serial_step.specs.Pairs.{IsFair, AreApart, LeavesNoTerm, AreNearPairs, brought, OnlyTurns, lesser_id_first, energy_between, virial_between, word_between, IsReach, is_within}
 use Rattle.serial_step.proofs.LeastLemmas.{least-chosen, least-flat_map}
 
 -- a term is odd
@@ -121,6 +121,9 @@ module _ (component : List ℤ → ℤ) (turns : (d e : List ℤ) → IsOpposite
       (word (get_or atoms i d)) near (λ p off. pull-none field s p.0 p.1 (far p off)) atoms pairs same
       ∙ total-at_key word (λ a. total (pull field s a) atoms) atoms i d apart lt
 
+three : (x y z u v w : ℤ) → x ≡ u → y ≡ v → z ≡ w → x ∷ y ∷ z ∷ [] ≡ u ∷ v ∷ w ∷ []
+three x y z u v w f g h = cc
+
 pub x_from_pairs : (field : Field) (s : Sides) (word : Atom → ℕ) (atoms : List Atom) (near : Atom × Atom → Bool) (pairs : List (Atom × Atom)) (i : ℕ) (d : Atom)
     → IsFair field → HasEdges s → AreApart word atoms → LeavesNoTerm field s near → AreNearPairs near atoms pairs → i < length atoms
     → brought field s x_of word pairs (word (get_or atoms i d)) ≡ x_of (force_on field s atoms (get_or atoms i d))
@@ -138,6 +141,16 @@ pub z_from_pairs : (field : Field) (s : Sides) (word : Atom → ℕ) (atoms : Li
     → brought field s z_of word pairs (word (get_or atoms i d)) ≡ z_of (force_on field s atoms (get_or atoms i d))
 unfolding force_on
 z_from_pairs = pull_from_pairs z_of (λ d e h. h.2) refl
+
+pub force_from_pairs : (field : Field) (s : Sides) (word : Atom → ℕ) (atoms : List Atom) (near : Atom × Atom → Bool) (pairs : List (Atom × Atom)) (i : ℕ) (d : Atom)
+    → IsFair field → HasEdges s → AreApart word atoms → LeavesNoTerm field s near → AreNearPairs near atoms pairs → i < length atoms
+    → let k = word (get_or atoms i d) in brought field s x_of word pairs k ∷ brought field s y_of word pairs k ∷ brought field s z_of word pairs k ∷ [] ≡ force_on field s atoms (get_or atoms i d)
+unfolding force_on
+force_from_pairs field s word atoms near pairs i d fair edges apart far same lt =
+    let x = pull_from_pairs x_of (λ d e h. h.0) refl field s word atoms near pairs i d fair edges apart far same lt in
+    let y = pull_from_pairs y_of (λ d e h. h.1) refl field s word atoms near pairs i d fair edges apart far same lt in
+    let z = pull_from_pairs z_of (λ d e h. h.2) refl field s word atoms near pairs i d fair edges apart far same lt in
+    three _ _ _ _ _ _ x y z
 
 -- what all pairs of a list bring, by owners
 pub brought-flat_map : {X : Type 0} (field : Field) (s : Sides) (component : List ℤ → ℤ) (word : Atom → ℕ) (of : X → List (Atom × Atom)) (owners : List X) (k : ℕ)
@@ -302,6 +315,13 @@ module _ (field : Field) (s : Sides) (fair : IsFair field) (edges : HasEdges s) 
 
   pub z_brought-turned : (word : Atom → ℕ) (pairs : List (Atom × Atom)) (k : ℕ) → brought field s z_of word (map turn pairs) k ≡ brought field s z_of word pairs k
   z_brought-turned = brought-turned z_of (λ d e h. h.2)
+
+turned_or_not : (b : Bool) (p q : Atom × Atom) → (cond b q p ≡ p) ⊎ (cond b q p ≡ q)
+turned_or_not true p q = inr refl
+turned_or_not false p q = inl refl
+
+pub lesser_id_first-turns : OnlyTurns lesser_id_first
+lesser_id_first-turns p = turned_or_not (nat_lt p.1.id p.0.id) p (p.1, p.0)
 
 -- all pairs are a list of near pairs
 filter_all : {X : Type 0} (xs : List X) → filter (λ x. true) xs ≡ xs

@@ -1,6 +1,6 @@
 -- What the laws of sums over pairs speak of: fields in which a pair has no order, lists of pairs, and what the adds of their terms bring.
-use Rattle.std.specs.Prelude.{◌≡◌, ◌*◌, ◌≤◌, ◌==◌, ◌⊎◌, Bool, false, nat_lt, ℕ, ℤ, Ok, None, IfSome, List, flat_map}
-use Rattle.std.specs.List.{IsDistinct, filter}
+use Rattle.std.specs.Prelude.{◌≡◌, ◌*◌, ◌<◌, ◌≤◌, ◌==◌, ◌&&◌, ◌⊎◌, Bool, true, false, cond, nat_lt, ℕ, ℤ, Ok, None, IfSome, List, flat_map, length, slice_index_or}
+use Rattle.std.specs.List.{Contains, IsDistinct, filter}
 use Rattle.std.specs.List.Sorted.{IsPermutation}
 use Rattle.box_geo.specs.declared.atoms.Atom.{Atom}
 use Rattle.box_geo.specs.declared.sim_box.Sides.{Sides}
@@ -25,9 +25,26 @@ LeavesNoTerm field s near = (p : Atom × Atom) → near p ≡ false → term_of 
 abbrev pub AreNearPairs : (Atom × Atom → Bool) → List Atom → List (Atom × Atom) → Type 0
 AreNearPairs near atoms pairs = IsPermutation (filter near (half atoms)) pairs
 
+-- the pair of the atoms at two places, d past the end
+abbrev pub pair_at : List Atom → Atom → ℕ × ℕ → Atom × Atom
+pair_at atoms d places = (slice_index_or atoms places.0 d, slice_index_or atoms places.1 d)
+
+abbrev pub are_same_places : ℕ × ℕ → ℕ × ℕ → Bool
+are_same_places p q = (p.0 == q.0) && (p.1 == q.1)
+
+-- the list of pairs of places has those whose atoms are near, the lesser place first, each once
+pub record HasEachNearPairOnce (near : Atom × Atom → Bool) (atoms : List Atom) (d : Atom) (places : List (ℕ × ℕ)) : Type 0 where
+  pub once : IsDistinct are_same_places places
+  pub only : (p : ℕ × ℕ) → Contains places p → (p.0 < p.1) × (p.1 < length atoms) × (near (pair_at atoms d p) ≡ true)
+  pub each : (p : ℕ × ℕ) → p.0 < p.1 → p.1 < length atoms → near (pair_at atoms d p) ≡ true → Contains places p
+
 -- each pair is as it was or turned round
 abbrev pub OnlyTurns : (Atom × Atom → Atom × Atom) → Type 0
 OnlyTurns turn = (p : Atom × Atom) → (turn p ≡ p) ⊎ (turn p ≡ (p.1, p.0))
+
+-- the atom of the lesser id first
+abbrev pub lesser_id_first : Atom × Atom → Atom × Atom
+lesser_id_first p = cond (nat_lt p.1.id p.0.id) (p.1, p.0) p
 
 -- what a list of pairs brings to a word, for one component of the force: each pair adds it to the word of its first atom, and the negative to the word of its second
 abbrev pub brought : Field → Sides → (List ℤ → ℤ) → (Atom → ℕ) → List (Atom × Atom) → ℕ → ℤ

@@ -9,7 +9,7 @@ ghost use Rattle.box_geo.specs.declared.sim_box.Sides.{Sides};
 ghost use Rattle.pair_lj.specs.PairTerm.{IsOpposite, AreOpposite};
 ghost use Rattle.pair_lj.specs.declared.table.PairTable.{PairTable};
 ghost use Rattle.serial_step.specs.Forces.{Field, field_of, term_of, force_of, energy_of, virial_of, force_on, least, pair_energy, pair_virial, terms_fault};
-ghost use Rattle.serial_step.specs.Pairs.{IsFair, AreApart, LeavesNoTerm, AreNearPairs, OnlyTurns, IsReach, brought, energy_between, virial_between, word_between, joined, is_within};
+ghost use Rattle.serial_step.specs.Pairs.{IsFair, AreApart, LeavesNoTerm, AreNearPairs, HasEachNearPairOnce, OnlyTurns, IsReach, brought, energy_between, virial_between, word_between, joined, is_within, lesser_id_first, pair_at};
 ghost use Rattle.sums.specs.Totals.{total, half};
 
 /// The term of a pair is odd: taken from the other atom it is of the same kind, with the negative
@@ -51,6 +51,16 @@ pub fn forces_come_from_pairs()
     ensures z { (field : Field) (s : Sides) (word : Atom → ℕ) (atoms : List Atom) (near : Atom × Atom → Bool) (pairs : List (Atom × Atom)) (i : ℕ) (d : Atom)
         → IsFair field → HasEdges s → AreApart word atoms → LeavesNoTerm field s near → AreNearPairs near atoms pairs → i < length atoms
         → brought field s z_of word pairs (word (slice_index_or atoms i d)) ≡ z_of (force_on field s atoms (slice_index_or atoms i d)) }
+{}
+
+/// The force on an atom is what the pairs bring to its word in the three components, as in
+/// [`forces_come_from_pairs`].
+pub fn a_force_comes_from_pairs()
+    ensures { (field : Field) (s : Sides) (word : Atom → ℕ) (atoms : List Atom) (near : Atom × Atom → Bool) (pairs : List (Atom × Atom)) (i : ℕ) (d : Atom)
+        → IsFair field → HasEdges s → AreApart word atoms → LeavesNoTerm field s near → AreNearPairs near atoms pairs → i < length atoms
+        → let k = word (slice_index_or atoms i d) in
+          brought field s x_of word pairs k ∷ brought field s y_of word pairs k ∷ brought field s z_of word pairs k ∷ []
+            ≡ force_on field s atoms (slice_index_or atoms i d) }
 {}
 
 /// What joined lists of pairs bring to a word is the sum of what each list brings.
@@ -112,8 +122,18 @@ pub fn all_pairs_are_near_pairs()
     ensures { (atoms : List Atom) → AreNearPairs (λ p. true) atoms (half atoms) }
 {}
 
-/// Each pair of a list may be taken either way round: forces, energy, virial and words of faults stay.
+/// A list of pairs of places that has each pair of atoms that is near, the lesser place first and
+/// each once, gives their near pairs. This is how a half list or a search by bins meets the other
+/// laws.
+pub fn near_pairs_come_from_places()
+    ensures { (near : Atom × Atom → Bool) (atoms : List Atom) (d : Atom) (places : List (ℕ × ℕ))
+        → HasEachNearPairOnce near atoms d places → AreNearPairs near atoms (map (pair_at atoms d) places) }
+{}
+
+/// Each pair of a list may be taken either way round, as with the lesser id first: forces, energy,
+/// virial and words of faults stay.
 pub fn pairs_may_be_turned()
+    ensures by_id { OnlyTurns lesser_id_first }
     ensures x { (field : Field) (s : Sides) (turn : Atom × Atom → Atom × Atom) (word : Atom → ℕ) (pairs : List (Atom × Atom)) (k : ℕ)
         → IsFair field → HasEdges s → OnlyTurns turn
         → brought field s x_of word (map turn pairs) k ≡ brought field s x_of word pairs k }

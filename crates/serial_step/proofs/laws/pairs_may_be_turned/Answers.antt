@@ -1,4 +1,4 @@
-use Rattle.serial_step.proofs.ForceLemmas.{x_brought-turned, y_brought-turned, z_brought-turned, energy-turned, virial-turned, words-turned}
+use Rattle.serial_step.proofs.ForceLemmas.{x_brought-turned, y_brought-turned, z_brought-turned, energy-turned, virial-turned, words-turned, lesser_id_first-turns}
 use Rattle.serial_step.proofs.laws.pairs_may_be_turned.Goals as goal
 
 pub returns-clause-x : goal.returns-clause-x
@@ -18,3 +18,6 @@ returns-clause-virial c = λ field s turn pairs fair edges only. virial-turned f
 
 pub returns-clause-words : goal.returns-clause-words
 returns-clause-words c = λ field s turn pairs fair edges only. words-turned field s fair edges turn only pairs
+
+pub returns-clause-by_id : goal.returns-clause-by_id
+returns-clause-by_id c = lesser_id_first-turns

@@ -1,0 +1,5 @@
+mod Worked
+mod WorkedPairs
+pub mod ForceLemmas
+pub mod LeastLemmas
+pub mod PlaceLemmas

@@ -2,7 +2,7 @@
 ghost use Rattle.std.specs.Prelude.{◌≡◌, ◌<◌};
 
 use fx_num::{NoMemory, Seq, Steps, Text};
-use fxlmp_top::{Status, run_words};
+use fxlmp_top::{Status, run_surely, run_words};
 use outside::{File, Files, Piece, Press, Shelf, SurePress, SureShelf};
 use std::alloc::Global;
 use std::marker::Brand;
@@ -102,6 +102,22 @@ pub(crate) fn run_over<S: Shelf, P: Press>(
     Ok(run_counted::<S, P, Brand>(alloc, words, shelf, press, Blank::new(1)))
 }
 
+/// Runs the words over objects that never fail, counting on this blank's ledger.
+fn run_surely_counted<L: Ledger>(
+    alloc: Global,
+    words: &[Text],
+    shelf: &mut SureShelf,
+    press: &mut SurePress,
+    blank: Blank,
+) -> Status
+    requires name { blank.name ≡ L.name }
+    requires parts { blank.parts ≡ L.parts }
+    requires some { 0 < blank.parts }
+{
+    let mut steps = Steps::<L>::new(blank);
+    run_surely(alloc, words, shelf, press, &mut steps)
+}
+
 /// Runs the words over files and a press that never fail. Gives the status, and the press with what
 /// it was sent.
 pub(crate) fn run_over_files(
@@ -113,7 +129,15 @@ pub(crate) fn run_over_files(
     assert!(rt; files.has_distinct_names());
     let mut shelf = SureShelf::new(rt.alloc(), files)?;
     let mut press = SurePress::new(rt.alloc())?;
-    let status = run_over(rt.alloc(), words, &mut shelf, &mut press)?;
+    let words = texts_of(rt.alloc(), words)?;
+    let words = words.as_slice();
+    let status = run_surely_counted::<Brand>(
+        rt.alloc(),
+        words,
+        &mut shelf,
+        &mut press,
+        Blank::new(1),
+    );
     Ok((status, press))
 }
 

@@ -59,10 +59,6 @@ fn atoms_too_close_end_the_run_at_step_0(rt: HostRuntime) -> Result<(), Fail> {
     let data = data_file(rt.alloc(), "10", "1 1 5 5 5\n2 1 5.2 5 5\n")?;
     let files = [(SCRIPT_NAME, SCRIPT), (DATA_NAME, data.as_str())];
     let (status, press) = run_over_files(&rt, WORDS, &files)?;
-    let error = b"ERROR: Close 1 2 in forces at step 0\n".as_slice();
-    let want = [(LOG, true, error), (SCREEN, true, error)];
-    check_pieces(&rt, press.pieces(), &want, "5 and 5.2");
-    assert_eq!(rt; status.number(), 2);
     match status {
         Status::RangeFault { key, step } => {
             assert_eq!(rt; (key.phase, key.kind, key.a, key.b), (2, 1, 1, 2));
@@ -70,5 +66,9 @@ fn atoms_too_close_end_the_run_at_step_0(rt: HostRuntime) -> Result<(), Fail> {
         }
         _ => panic!(rt; "{status:?}"),
     }
+    assert_eq!(rt; status.number(), 2);
+    let error = b"ERROR: Close 1 2 in forces at step 0\n".as_slice();
+    let want = [(LOG, true, error), (SCREEN, true, error)];
+    check_pieces(&rt, press.pieces(), &want, "5 and 5.2");
     Ok(())
 }

@@ -43,8 +43,8 @@ pub term_of-opposite : (field : Field) (s : Sides) (i j : Atom) → IsFair field
 unfolding term_of
 term_of-opposite field s i j fair edges =
     let exchanged : term_of field s j i ≡ term_apart (i.id == j.id) (field.weight i.id j.id) (field.pairs i.kind j.kind) (near_image s j.x i.x) =
-      term_apart-same (j.id == i.id) (i.id == j.id) (field.weight j.id i.id) (field.weight i.id j.id) (field.pairs j.kind i.kind) (field.pairs i.kind j.kind) (near_image s j.x i.x)
-      (equal-comm j.id i.id) (fair.weight j.id i.id) (fair.pairs j.kind i.kind) in
+    term_apart-same (j.id == i.id) (i.id == j.id) (field.weight j.id i.id) (field.weight i.id j.id) (field.pairs j.kind i.kind) (field.pairs i.kind j.kind) (near_image s j.x i.x)
+    (equal-comm j.id i.id) (fair.weight j.id i.id) (fair.pairs j.kind i.kind) in
     let on : Result (Option Term) Close → Type 0 = λ r. AreOpposite (term_of field s i j) r in
     subst on (sym exchanged)
     (term_apart-opposite (i.id == j.id) (field.weight i.id j.id) (field.pairs i.kind j.kind) (near_image s i.x j.x) (near_image s j.x i.x) (near_image-opposite s i.x j.x edges))
@@ -301,7 +301,7 @@ module _ (field : Field) (s : Sides) (fair : IsFair field) (edges : HasEdges s) 
       let adds : Atom × Atom → List (ℕ × ℤ) = opposite_adds word term in
       let bring : Atom × Atom → ℤ = λ p. total (into k) (adds p) in
       let even : (p : Atom × Atom) → bring (p.1, p.0) ≡ bring p = λ p. adds-turned word term k p.0 p.1
-        (turns (force_of (term_of field s p.0 p.1)) (force_of (term_of field s p.1 p.0)) (force_of-opposite (term_of field s p.0 p.1) (term_of field s p.1 p.0) (term_of-opposite field s p.0 p.1 fair edges))) in
+      (turns (force_of (term_of field s p.0 p.1)) (force_of (term_of field s p.1 p.0)) (force_of-opposite (term_of field s p.0 p.1) (term_of field s p.1 p.0) (term_of-opposite field s p.0 p.1 fair edges))) in
       total-flat_map (into k) adds (map turn pairs)
       ∙ total-map bring turn pairs
       ∙ total-same (λ p. bring (turn p)) bring (after_turns bring even turn only) pairs

@@ -66,7 +66,7 @@ distinct_append e [] ys first second apart = second
 distinct_append e (x ∷ xs) ys first second apart =
     IsDistinct-cons e x (xs ++ ys)
     (recursion_from_All (λ y. e x y ≡ false) (xs ++ ys)
-     (All-append (λ y. e x y ≡ false) xs ys (All-from_recursion (λ y. e x y ≡ false) xs (IsDistinct-head e x xs first)) (All-head (λ z. All (λ y. e z y ≡ false) ys) x xs apart)))
+    (All-append (λ y. e x y ≡ false) xs ys (All-from_recursion (λ y. e x y ≡ false) xs (IsDistinct-head e x xs first)) (All-head (λ z. All (λ y. e z y ≡ false) ys) x xs apart)))
     (distinct_append e xs ys (IsDistinct-tail e x xs first) second (All-tail (λ z. All (λ y. e z y ≡ false) ys) x xs apart))
 
 kept_apart : {X : Type 0} (e : X → X → Bool) (b : Bool) (x : X) (xs : List X) → All (λ y. e x y ≡ false) xs → IsDistinct e xs → IsDistinct e (cond b (x ∷ xs) xs)
@@ -105,9 +105,9 @@ module _ {X : Type 0} (e : X → X → Bool) where
   pairs_of_one x (y ∷ ys) h =
       IsDistinct-cons pairwise (x, y) (map (λ z. (x, z)) ys)
       (recursion_from_All (λ q. pairwise (x, y) q ≡ false) (map (λ z. (x, z)) ys)
-       (All-map (λ q. pairwise (x, y) q ≡ false) (λ z. (x, z)) ys
-        (All-weaker (λ z. e y z ≡ false) (λ z. pairwise (x, y) (x, z) ≡ false) (λ z differs. second_differs (e x x) (e y z) differs) ys
-         (All-from_recursion (λ z. e y z ≡ false) ys (IsDistinct-head e y ys h)))))
+      (All-map (λ q. pairwise (x, y) q ≡ false) (λ z. (x, z)) ys
+      (All-weaker (λ z. e y z ≡ false) (λ z. pairwise (x, y) (x, z) ≡ false) (λ z differs. second_differs (e x x) (e y z) differs) ys
+      (All-from_recursion (λ z. e y z ≡ false) ys (IsDistinct-head e y ys h)))))
       (pairs_of_one x ys (IsDistinct-tail e y ys h))
 
   half-distinct : (xs : List X) → IsDistinct e xs → IsDistinct pairwise (half xs)
@@ -145,9 +145,9 @@ distinct_suc [] h = h
 distinct_suc (x ∷ xs) h =
     IsDistinct-cons (λ m n. m == n) (suc x) (map suc xs)
     (recursion_from_All (λ y. (suc x == y) ≡ false) (map suc xs)
-     (All-map (λ y. (suc x == y) ≡ false) suc xs
-      (All-weaker (λ y. (x == y) ≡ false) (λ y. (suc x == suc y) ≡ false) (λ y differs. eqb-suc-suc x y ∙ differs) xs
-       (All-from_recursion (λ y. (x == y) ≡ false) xs (IsDistinct-head (λ m n. m == n) x xs h)))))
+    (All-map (λ y. (suc x == y) ≡ false) suc xs
+    (All-weaker (λ y. (x == y) ≡ false) (λ y. (suc x == suc y) ≡ false) (λ y differs. eqb-suc-suc x y ∙ differs) xs
+    (All-from_recursion (λ y. (x == y) ≡ false) xs (IsDistinct-head (λ m n. m == n) x xs h)))))
     (distinct_suc xs (IsDistinct-tail (λ m n. m == n) x xs h))
 
 upto_distinct : (n : ℕ) → IsDistinct (λ m n. m == n) (upto n)
@@ -166,11 +166,11 @@ half_rises zero = All-nil (Rises zero)
 half_rises (suc n) =
     All-append (Rises (suc n)) (map (λ y. (zero, y)) (map suc (upto n))) (half (map suc (upto n)))
     (All-map (Rises (suc n)) (λ y. (zero, y)) (map suc (upto n))
-     (All-map (λ y. Rises (suc n) (zero, y)) suc (upto n)
-      (All-weaker (λ y. y < n) (λ y. Rises (suc n) (zero, suc y)) (λ y lt. (omega arith, omega arith)) (upto n) (upto_below n))))
+    (All-map (λ y. Rises (suc n) (zero, y)) suc (upto n)
+    (All-weaker (λ y. y < n) (λ y. Rises (suc n) (zero, suc y)) (λ y lt. (omega arith, omega arith)) (upto n) (upto_below n))))
     (All-same (Rises (suc n)) (half (map suc (upto n))) (map (both suc) (half (upto n))) (half-map suc (upto n))
-     (All-map (Rises (suc n)) (both suc) (half (upto n))
-      (All-weaker (Rises n) (λ p. Rises (suc n) (both suc p)) (λ p h. (omega (arith, h.0), omega (arith, h.1))) (half (upto n)) (half_rises n))))
+    (All-map (Rises (suc n)) (both suc) (half (upto n))
+    (All-weaker (Rises n) (λ p. Rises (suc n) (both suc p)) (λ p h. (omega (arith, h.0), omega (arith, h.1))) (half (upto n)) (half_rises n))))
 
 half_has : (n i j : ℕ) → i < j → j < n → Contains (half (upto n)) (i, j)
 half_has zero i j lt hi = absurd (omega arith)
@@ -204,7 +204,7 @@ near_places near atoms d places h =
     (distinct_filter are_same_places chosen (half (upto n)) (half-distinct (λ m n. m == n) (upto n) (upto_distinct n)))
     h.once
     (λ p c. let up : Rises n p = All-contains (Rises n) (filter chosen (half (upto n))) p (All-filter chosen (Rises n) (half (upto n)) (half_rises n)) c in
-      h.each p up.0 up.1 (All-contains (λ q. chosen q ≡ true) (filter chosen (half (upto n))) p (filter_passes chosen (half (upto n))) c))
+    h.each p up.0 up.1 (All-contains (λ q. chosen q ≡ true) (filter chosen (half (upto n))) p (filter_passes chosen (half (upto n))) c))
     (λ p c. let up = h.only p c in let place = half_has n p.0 p.1 up.0 up.1 in member_kept chosen (half (upto n)) place.0 p place.1 place.2 up.2)
 
 pub near_pairs_from_places : (near : Atom × Atom → Bool) (atoms : List Atom) (d : Atom) (places : List (ℕ × ℕ)) → HasEachNearPairOnce near atoms d places → AreNearPairs near atoms (map (pair_at atoms d) places)
@@ -212,6 +212,6 @@ near_pairs_from_places near atoms d places h =
     let at : ℕ → Atom = λ i. get_or atoms i d in
     let n : ℕ = length atoms in
     let is : map (pair_at atoms d) (filter (λ p. near (pair_at atoms d p)) (half (upto n))) ≡ filter near (half atoms) =
-      sym (filter-map near (pair_at atoms d) (half (upto n))) ∙ ap (filter near) (sym (half-map at (upto n)) ∙ ap half (elements_at atoms d)) in
+    sym (filter-map near (pair_at atoms d) (half (upto n))) ∙ ap (filter near) (sym (half-map at (upto n)) ∙ ap half (elements_at atoms d)) in
     let P : List (Atom × Atom) → Type 0 = λ list. IsPermutation list (map (pair_at atoms d) places) in
     subst P is (IsPermutation-map (pair_at atoms d) (filter (λ p. near (pair_at atoms d p)) (half (upto n))) places (near_places near atoms d places h))

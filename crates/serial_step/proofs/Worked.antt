@@ -1,16 +1,15 @@
 -- Worked steps, in units worked out by hand: a box of 10 on each axis, mass 1, eps = sigma = 1, cutoff 2.5, skin 0.3.
-use Rattle.std.proofs.Common.{◌≡◌, ◌+◌, ◌*◌, ◌^◌, Bool, true, false, ℕ, ℤ, pos, neg_ℤ, Some, None, Ok, Err, Option, List, [], ◌∷◌, refl}
+use Rattle.std.proofs.Common.{◌≡◌, ◌*◌, ◌^◌, Bool, true, false, ℕ, ℤ, pos, neg_ℤ, Some, List, [], ◌∷◌, refl}
 use Rattle.fx_num.specs.Rounding.{nearest_of, div_rounded}
 use Rattle.box_geo.specs.declared.atoms.Atom.{Atom}
 use Rattle.box_geo.specs.declared.sim_box.Extent.{Extent}
 use Rattle.box_geo.specs.declared.sim_box.Sides.{Sides}
-use Rattle.box_geo.specs.declared.sim_box.Axis.TheVariants.{X, Y, Z}
 use Rattle.box_geo.specs.Fault.{no_fault}
 use Rattle.box_geo.specs.Sides.{near_image}
 use Rattle.pair_lj.specs.PairTerm.{inverse_square, sixth_power, twelfth_power, strength, energy_at, force_along, weighted_term, pair_term}
-use Rattle.serial_step.specs.Forces.{Field, PairNumbers, term_of, force_on, pair_energy, pair_virial, terms_fault, with_forces, forces_fault, word}
+use Rattle.serial_step.specs.Forces.{Field, term_of, force_on, pair_energy, pair_virial, terms_fault, with_forces, forces_fault, word}
 use Rattle.serial_step.specs.Rebuild.{renews, neighbour_pairs}
-use Rattle.serial_step.specs.Step.{Setting, State, Outcome, drifted, kicked_again, serial_step, set_up, counts}
+use Rattle.serial_step.specs.Step.{Setting, State, drifted, kicked_again, serial_step}
 use Rattle.serial_step.specs.Wrap.{wrap}
 
 abbrev side : Bool → Extent

@@ -1,5 +1,5 @@
 -- The forces on atoms and the sums over pairs of atoms. All are sums of whole numbers, so nothing depends on an order.
-use Rattle.std.specs.Prelude.{◌+◌, ◌*◌, ◌^◌, ◌==◌, ◌||◌, Bool, true, false, cond, min, max, nat_lt, ℕ, zero, suc, ℤ, pos, ◌+ℤ◌, unsigned_abs, Option, Some, None, Result, Ok, Err, List, [], ◌∷◌, ◌++◌, map, flat_map, fold}
+use Rattle.std.specs.Prelude.{◌+◌, ◌*◌, ◌^◌, ◌==◌, ◌||◌, Bool, true, false, cond, min, max, nat_lt, ℕ, zero, suc, ℤ, pos, unsigned_abs, Option, Some, None, Result, Ok, Err, List, [], ◌∷◌, map, fold}
 use Rattle.std.specs.Option.{option_map}
 use Rattle.box_geo.specs.declared.atoms.Atom.{Atom}
 use Rattle.box_geo.specs.declared.sim_box.Sides.{Sides}

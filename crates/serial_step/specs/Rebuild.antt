@@ -1,5 +1,5 @@
 -- Reference positions, builds and neighbour pairs (after Plimpton).
-use Rattle.std.specs.Prelude.{◌+◌, ◌*◌, Bool, cond, nat_lt, ℕ, ℤ, List, [], ◌∷◌, map, count_by}
+use Rattle.std.specs.Prelude.{◌*◌, Bool, nat_lt, ℕ, ℤ, List, map, count_by}
 use Rattle.std.specs.List.{list_any, zip}
 use Rattle.box_geo.specs.declared.atoms.Atom.{Atom}
 use Rattle.box_geo.specs.declared.sim_box.Sides.{Sides}

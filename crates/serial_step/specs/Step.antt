@@ -1,5 +1,5 @@
 -- The serial step and set-up, on one list of atoms in rising order of id, and its fault: the least word of the first phase that has one.
-use Rattle.std.specs.Prelude.{◌+◌, ◌*◌, ◌^◌, ◌-◌, ◌==◌, ◌||◌, Bool, true, false, cond, nat_lt, ℕ, ℤ, pos, ◌+ℤ◌, ◌*ℤ◌, unsigned_abs, slice_index_or, Result, Ok, Err, List, [], ◌∷◌, map}
+use Rattle.std.specs.Prelude.{◌+◌, ◌^◌, ◌-◌, ◌==◌, ◌||◌, Bool, true, false, cond, nat_lt, ℕ, ℤ, pos, ◌+ℤ◌, ◌*ℤ◌, unsigned_abs, slice_index_or, Result, Ok, Err, List, [], ◌∷◌, map}
 use Rattle.fx_num.specs.Rounding.{div_rounded, shr_rounded}
 use Rattle.box_geo.specs.declared.atoms.Atom.{Atom}
 use Rattle.box_geo.specs.declared.sim_box.Axis.{Axis}

@@ -1,5 +1,5 @@
 -- Wrapping: a position is brought into the box by whole edges, and the image counts change by their numbers.
-use Rattle.std.specs.Prelude.{◌+◌, ◌*◌, ◌/◌, ◌==◌, ◌&&◌, Bool, true, false, not, cond, int_le, int_lt, ℕ, suc, ℤ, pos, negsuc, neg_ℤ, ◌+ℤ◌, ◌-ℤ◌, ◌*ℤ◌, unsigned_abs, Result, Ok, Err, List, [], ◌∷◌}
+use Rattle.std.specs.Prelude.{◌/◌, ◌&&◌, Bool, true, false, not, cond, int_le, int_lt, ℕ, ℤ, pos, negsuc, ◌-ℤ◌, ◌*ℤ◌, unsigned_abs, Result, Ok, Err, List, [], ◌∷◌}
 use Rattle.box_geo.specs.declared.sim_box.Axis.{Axis}
 use Rattle.box_geo.specs.declared.sim_box.Axis.TheVariants.{X, Y, Z}
 use Rattle.box_geo.specs.declared.sim_box.Extent.{Extent}

@@ -59,8 +59,8 @@ pub fn a_force_comes_from_pairs()
     ensures { (field : Field) (s : Sides) (word : Atom → ℕ) (atoms : List Atom) (near : Atom × Atom → Bool) (pairs : List (Atom × Atom)) (i : ℕ) (d : Atom)
         → IsFair field → HasEdges s → AreApart word atoms → LeavesNoTerm field s near → AreNearPairs near atoms pairs → i < length atoms
         → let k = word (slice_index_or atoms i d) in
-          brought field s x_of word pairs k ∷ brought field s y_of word pairs k ∷ brought field s z_of word pairs k ∷ []
-            ≡ force_on field s atoms (slice_index_or atoms i d) }
+        brought field s x_of word pairs k ∷ brought field s y_of word pairs k ∷ brought field s z_of word pairs k ∷ []
+        ≡ force_on field s atoms (slice_index_or atoms i d) }
 {}
 
 /// What joined lists of pairs bring to a word is the sum of what each list brings.

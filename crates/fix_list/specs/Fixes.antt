@@ -1,6 +1,6 @@
 -- The fixes of a run, in order of definition: their names, and the atoms that they move.
-use Rattle.std.specs.Prelude.{◌+◌, ◌==◌, Bool, cond, not, ℕ, List, [], ◌∷◌}
-use Rattle.std.specs.List.{filter, list_any}
+use Rattle.std.specs.Prelude.{◌+◌, ◌==◌, ◌<◌, length, slice_index, Bool, cond, not, ℕ, List, [], ◌∷◌}
+use Rattle.std.specs.List.{All, filter, list_any}
 use Rattle.std.specs.Str.{bytes_eq}
 use Rattle.fix_list.specs.declared.fixes.Fix.{Fix}
 use Rattle.fix_list.specs.declared.fixes.Fix.TheVariants.{Nve}
@@ -9,6 +9,14 @@ use Rattle.fix_list.specs.declared.fixes.NamedFix.{NamedFix}
 -- the ids of the atoms that a fix moves
 abbrev pub ids_of : Fix → List ℕ
 ids_of (Nve ids) = ids
+
+-- ids stand in strictly rising order
+abbrev pub Rises : List ℕ → Type 0
+Rises ids = (i j : ℕ) → i < j → j < length ids → slice_index ids i < slice_index ids j
+
+-- so do the ids of each fix of the list
+abbrev pub AllRise : List NamedFix → Type 0
+AllRise fixes = All (λ named. Rises (ids_of named.fix)) fixes
 
 -- whether a fix moves the atom of an id
 abbrev pub fix_moves : Fix → ℕ → Bool

@@ -1,0 +1,8 @@
+//! The fixes of a run, in the order in which they were defined.
+#![tactic(auto)]
+
+mod fixes;
+#[cfg(test)]
+mod tests;
+
+pub use fixes::{Fix, FixList, FixRefusal, NamedFix};

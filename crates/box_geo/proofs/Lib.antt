@@ -1,3 +1,4 @@
 pub mod FaultLemmas
 pub mod NearLemmas
 mod Worked
+pub mod WrapLemmas

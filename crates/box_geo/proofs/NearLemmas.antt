@@ -117,7 +117,7 @@ edge_back : (length : ℤ) → negsuc 0 *ℤ length ≡ neg_ℤ length
 edge_back (pos n) = ap (λ (m : ℕ). neg_ℤ (pos m)) (omega arith)
 edge_back (negsuc n) = omega (arith, ints)
 
-no_edge : (length : ℤ) → pos 0 *ℤ length ≡ pos 0
+pub no_edge : (length : ℤ) → pos 0 *ℤ length ≡ pos 0
 no_edge (pos n) = ap pos (omega arith)
 no_edge (negsuc n) = omega (arith, ints)
 

@@ -1,2 +1,3 @@
 pub mod Fault
 pub mod Sides
+pub mod Wrap

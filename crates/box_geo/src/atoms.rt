@@ -1,7 +1,10 @@
 //! Atoms, what binds them, and the lists that systems are made of.
 
+ghost use Rattle.std.specs.Prelude.{◌≡◌, IfOk};
+
 use crate::sim_box::SimBox;
-use fx_num::{Seq, V3};
+use fx_num::{NoMemory, Seq, V3};
+use std::alloc::Global;
 
 /// An atom. Lengths, velocities and forces are in units.
 #[derive(Clone, Copy, Debug)]
@@ -89,4 +92,32 @@ pub struct System {
     pub bonds: Bonds,
     /// The angles. Their ids exist.
     pub angles: Angles,
+}
+
+impl System {
+    /// A system of the same parts.
+    ///
+    /// # Errors
+    ///
+    /// [`NoMemory`] where memory is refused.
+    pub fn copy(&self, alloc: Global) -> Result<System, NoMemory>
+        ensures { IfOk result (λ s. s ≡ self.now) }
+    {
+        Ok(System {
+            step: self.step,
+            dt: self.dt,
+            cell: self.cell,
+            mass: copy_of(alloc, &self.mass)?,
+            atoms: copy_of(alloc, &self.atoms)?,
+            bonds: copy_of(alloc, &self.bonds)?,
+            angles: copy_of(alloc, &self.angles)?,
+        })
+    }
+}
+
+/// A list of the same items.
+fn copy_of<T: Copy>(alloc: Global, list: &Seq<T>) -> Result<Seq<T>, NoMemory>
+    ensures { IfOk result (λ l. l ≡ list.now) }
+{
+    Ok(Seq::from_vec(Vec::from_slice(alloc, list.as_slice())?))
 }

@@ -101,6 +101,19 @@ impl FaultKey {
         let a = self.a as u64;
         phase * (1 << 56) + kind * (1 << 48) + a * (1 << 24) + self.b as u64
     }
+
+    /// The key of a word: every word is that of one key.
+    pub fn from_word(word: u64) -> FaultKey
+        ensures is { key_word result ≡ word }
+        ensures fits { FitsWord result }
+    {
+        FaultKey {
+            phase: (word / (1 << 56)) as u8,
+            kind: (word / (1 << 48) % (1 << 8)) as u8,
+            a: (word / (1 << 24) % (1 << 24)) as u32,
+            b: (word % (1 << 24)) as u32,
+        }
+    }
 }
 
 /// Words order keys by phase, then kind, then the ids.

@@ -11,6 +11,7 @@ mod styles;
 mod term;
 #[cfg(test)]
 mod tests;
+mod wrap;
 
 pub use atoms::{
     Angle, Angles, Atom, Atoms, Bond, Bonds, Ids, Masses, Points, Site, Sites, System,
@@ -22,3 +23,4 @@ pub use fault::{FaultKey, FaultKind, FaultPhase, NO_FAULT, words_order_keys};
 pub use sim_box::{Axis, BoxRefusal, Extent, Sides, SimBox};
 pub use styles::{AtomStyle, LatticeStyle, Mix};
 pub use term::Term;
+pub use wrap::{Lost, wrapping_is_by_whole_edges};

@@ -93,6 +93,20 @@ impl Extent {
     }
 }
 
+impl Extent {
+    /// An axis of these bounds, or why they make none.
+    pub fn new(axis: Axis, lo: i64, hi: i64, periodic: bool) -> Result<Extent, BoxRefusal>
+        ensures made { IfOk result (λ e. e ≡ extent_of lo hi periodic) }
+        ensures sound { IfOk result IsSoundExtent }
+        ensures refused { MatchResult result (λ _. extent_refusal axis lo hi ≡ None) (λ why. extent_refusal axis lo hi ≡ Some why) }
+    {
+        match extent_fault(axis, lo, hi) {
+            Some(why) => Err(why),
+            None => Ok(Extent { lo, hi, periodic }),
+        }
+    }
+}
+
 /// Why bounds make no axis.
 fn extent_fault(axis: Axis, lo: i64, hi: i64) -> Option<BoxRefusal>
     ensures { result ≡ extent_refusal axis lo hi }
@@ -145,6 +159,14 @@ impl SimBox {
                 dim,
             },
         })
+    }
+
+    /// A box of these sides.
+    pub fn from_sides(sides: Sides) -> SimBox
+        requires { IsSound sides }
+        ensures { result.sides ≡ sides }
+    {
+        SimBox { sides }
     }
 
     /// Whether the position is inside the box.

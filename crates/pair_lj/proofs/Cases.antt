@@ -106,6 +106,18 @@ pub fits_each : (s a b c r2 : ℕ) → r2 ≡ a * a + b * b + c * c → s * r2 �
 fits_each s a b c r2 e bound =
     (part_fits s a r2 (omega arith) bound, part_fits s b r2 (omega arith) bound, part_fits s c r2 (omega arith) bound)
 
+-- and is below 2^28 within the cutoff
+short_part : (a r2 k : ℕ) → a * a ≤ r2 → r2 < k * k → k ≤ 2 ^ 28 → a < 2 ^ 28
+short_part a r2 k low inside short =
+    let most : k * k ≤ 2 ^ 28 * 2 ^ 28 = mul-le k k (2 ^ 28) (2 ^ 28) short short in
+    below_root a (2 ^ 28) (omega arith)
+  where
+    below_root : (m n : ℕ) → m * m < n * n → m < n
+    below_root m n h = grind arith
+
+pub short_parts : (a b c r2 s k : ℕ) → r2 ≡ a * a + b * b + c * c → s ≡ k * k → r2 < s → k ≤ 2 ^ 28 → (a < 2 ^ 28) × (b < 2 ^ 28) × (c < 2 ^ 28)
+short_parts a b c r2 s k e f inside short = (short_part a r2 k (omega arith) (omega arith) short, short_part b r2 k (omega arith) (omega arith) short, short_part c r2 k (omega arith) (omega arith) short)
+
 below : (s a : ℕ) → nearest_of (s * suc a) (2 ^ 32) ≤ 2 ^ 42 → s ≤ 2 ^ 100
 below s a low =
     let r : RoundsTo (s * suc a) (2 ^ 32) (nearest_of (s * suc a) (2 ^ 32)) = nearest_rounds (s * suc a) (2 ^ 32) (omega arith) in

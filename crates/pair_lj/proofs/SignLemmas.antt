@@ -63,7 +63,7 @@ unsigned_abs-product b s x d =
     ∙ ap (λ (n : ℕ). nearest_of n d) (unsigned_abs-mul (with_sign b s) x ∙ ap (λ (n : ℕ). n * unsigned_abs x) (unsigned_abs-with_sign b s))
 
 -- a sum of three products as code computes it
-pub sum_fits : (a b c : ℤ) → unsigned_abs a ≤ 2 ^ 76 → unsigned_abs b ≤ 2 ^ 76 → unsigned_abs c ≤ 2 ^ 76 → FitsSigned w128 (to_z w128 (of_z w128 (to_z w128 (of_z w128 a) +ℤ to_z w128 (of_z w128 b))) +ℤ to_z w128 (of_z w128 c))
+pub sum_fits : (a b c : ℤ) → unsigned_abs a ≤ 2 ^ 70 → unsigned_abs b ≤ 2 ^ 70 → unsigned_abs c ≤ 2 ^ 70 → FitsSigned w128 (to_z w128 (of_z w128 (to_z w128 (of_z w128 a) +ℤ to_z w128 (of_z w128 b))) +ℤ to_z w128 (of_z w128 c))
 sum_fits a b c la lb lc =
     let fa : FitsSigned w128 a = fits_signed_from_abs w128 a (omega arith) in
     let fb : FitsSigned w128 b = fits_signed_from_abs w128 b (omega arith) in
@@ -72,7 +72,7 @@ sum_fits a b c la lb lc =
     let all : FitsSigned w128 (a +ℤ b +ℤ c) = fits_signed_from_abs w128 (a +ℤ b +ℤ c) (omega (arith, ints)) in
     simp to_z-of_z all
 
-pub sum_is : (a b c p q r : ℤ) → unsigned_abs a ≤ 2 ^ 76 → unsigned_abs b ≤ 2 ^ 76 → unsigned_abs c ≤ 2 ^ 76 → a ≡ p → b ≡ q → c ≡ r → to_z w128 (of_z w128 (to_z w128 (of_z w128 (to_z w128 (of_z w128 a) +ℤ to_z w128 (of_z w128 b))) +ℤ to_z w128 (of_z w128 c))) ≡ p +ℤ q +ℤ r
+pub sum_is : (a b c p q r : ℤ) → unsigned_abs a ≤ 2 ^ 70 → unsigned_abs b ≤ 2 ^ 70 → unsigned_abs c ≤ 2 ^ 70 → a ≡ p → b ≡ q → c ≡ r → to_z w128 (of_z w128 (to_z w128 (of_z w128 (to_z w128 (of_z w128 a) +ℤ to_z w128 (of_z w128 b))) +ℤ to_z w128 (of_z w128 c))) ≡ p +ℤ q +ℤ r
 sum_is a b c p q r la lb lc ep eq er =
     let fa : FitsSigned w128 a = fits_signed_from_abs w128 a (omega arith) in
     let fb : FitsSigned w128 b = fits_signed_from_abs w128 b (omega arith) in
@@ -81,3 +81,9 @@ sum_is a b c p q r la lb lc ep eq er =
     let all : FitsSigned w128 (a +ℤ b +ℤ c) = fits_signed_from_abs w128 (a +ℤ b +ℤ c) (omega (arith, ints)) in
     let same : a +ℤ b +ℤ c ≡ p +ℤ q +ℤ r = cc in
     simp to_z-of_z same
+
+sum_le : (a b c : ℤ) → unsigned_abs a ≤ 2 ^ 70 → unsigned_abs b ≤ 2 ^ 70 → unsigned_abs c ≤ 2 ^ 70 → unsigned_abs (a +ℤ b +ℤ c) ≤ 3 * 2 ^ 70
+sum_le a b c la lb lc = omega (arith, ints)
+
+pub sum_small : (a b c : ℤ) → unsigned_abs a ≤ 2 ^ 70 → unsigned_abs b ≤ 2 ^ 70 → unsigned_abs c ≤ 2 ^ 70 → unsigned_abs (to_z w128 (of_z w128 (to_z w128 (of_z w128 (to_z w128 (of_z w128 a) +ℤ to_z w128 (of_z w128 b))) +ℤ to_z w128 (of_z w128 c)))) ≤ 3 * 2 ^ 70
+sum_small a b c la lb lc = rw (sum_is a b c a b c la lb lc refl refl refl) (sum_le a b c la lb lc)

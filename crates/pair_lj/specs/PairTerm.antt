@@ -64,6 +64,12 @@ IsModerate f = (unsigned_abs (x_of f) ≤ 2 ^ 42) × (unsigned_abs (y_of f) ≤ 
 abbrev pub HasModerateForce : Term → Type 0
 HasModerateForce t = IsModerate t.f
 
+abbrev pub HasModerateEnergy : Term → Type 0
+HasModerateEnergy t = unsigned_abs t.energy < 2 ^ 60
+
+abbrev pub HasModerateVirial : Term → Type 0
+HasModerateVirial t = unsigned_abs t.virial < 2 ^ 72
+
 -- the term of a pair with a special weight in units, 2^24 for a whole term
 unfoldable pub weighted_term : ℤ → ℤ → ℕ → List ℤ → Term
 weighted_term c e weight d =

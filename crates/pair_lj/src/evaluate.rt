@@ -1,7 +1,7 @@
 //! The pair term at a displacement.
 ghost use Rattle.std.specs.Prelude.{◌≡◌, ◌+◌, ◌*◌, ◌^◌, ◌<◌, ◌≤◌, ◌⊎◌, [], ◌∷◌, pos, ◌-ℤ◌, ◌*ℤ◌, unsigned_abs, IfOk, IfSome, MatchBool};
 ghost use Rattle.fx_num.specs.Rounding.{nearest_of, div_rounded, shr_rounded, with_sign};
-ghost use Rattle.pair_lj.specs.PairTerm.{pair_term, force_along, dot, HasModerateForce, IsDisplacement, IsModerate};
+ghost use Rattle.pair_lj.specs.PairTerm.{pair_term, force_along, dot, HasModerateForce, HasModerateEnergy, HasModerateVirial, IsDisplacement, IsModerate};
 
 use crate::close::Close;
 use crate::coefficients::Coefficients;
@@ -22,6 +22,8 @@ pub(crate) fn evaluate(k: Coefficients, d: V3, weight: u64) -> Result<Option<Ter
     requires weight { weight ≤ 2 ^ 24 }
     ensures is { result ≡ pair_term k.epsilon k.sigma k.cutoff (pos 0) weight d }
     ensures bounded { IfOk result (λ o. IfSome o HasModerateForce) }
+    ensures energy { IfOk result (λ o. IfSome o HasModerateEnergy) }
+    ensures virial { IfOk result (λ o. IfSome o HasModerateVirial) }
 {
     evaluate_at(k, d[0], d[1], d[2], weight)
 }
@@ -34,6 +36,8 @@ fn evaluate_at(k: Coefficients, x: i64, y: i64, z: i64, weight: u64) -> Result<O
     requires weight { weight ≤ 2 ^ 24 }
     ensures is { result ≡ pair_term k.epsilon k.sigma k.cutoff (pos 0) weight (x ∷ y ∷ z ∷ []) }
     ensures bounded { IfOk result (λ o. IfSome o HasModerateForce) }
+    ensures energy { IfOk result (λ o. IfSome o HasModerateEnergy) }
+    ensures virial { IfOk result (λ o. IfSome o HasModerateVirial) }
 {
     let (a, b, c) = (x.unsigned_abs(), y.unsigned_abs(), z.unsigned_abs());
     let r2 = distance2(a, b, c);
@@ -77,7 +81,8 @@ fn energy(epsilon: u64, s6: u128, s12: u128, weight: u64) -> i64
     requires s6 { s6 ≤ 2 ^ 44 }
     requires s12 { s12 ≤ 2 ^ 56 }
     requires weight { weight ≤ 2 ^ 24 }
-    ensures { result ≡ shr_rounded (shr_rounded (pos (4 * epsilon) *ℤ (pos s12 -ℤ pos s6)) 32 *ℤ pos weight) 24 }
+    ensures is { result ≡ shr_rounded (shr_rounded (pos (4 * epsilon) *ℤ (pos s12 -ℤ pos s6)) 32 *ℤ pos weight) 24 }
+    ensures bound { unsigned_abs result ≤ 2 ^ 59 }
 {
     let (negative, gap) = difference(s12, s6);
     signed(negative, weighted(energy_size(epsilon, gap), weight))
@@ -107,13 +112,14 @@ fn term(negative: bool, size: u128, energy: i64, x: i64, y: i64, z: i64) -> Term
     requires small_x { nearest_of (size * unsigned_abs x) (2 ^ 32) ≤ 2 ^ 42 }
     requires small_y { nearest_of (size * unsigned_abs y) (2 ^ 32) ≤ 2 ^ 42 }
     requires small_z { nearest_of (size * unsigned_abs z) (2 ^ 32) ≤ 2 ^ 42 }
-    requires x { unsigned_abs x < 2 ^ 34 }
-    requires y { unsigned_abs y < 2 ^ 34 }
-    requires z { unsigned_abs z < 2 ^ 34 }
+    requires x { unsigned_abs x < 2 ^ 28 }
+    requires y { unsigned_abs y < 2 ^ 28 }
+    requires z { unsigned_abs z < 2 ^ 28 }
     ensures force { result.f ≡ force_along (with_sign negative size) (x ∷ y ∷ z ∷ []) }
     ensures energy { result.energy ≡ energy }
     ensures virial { result.virial ≡ dot (x ∷ y ∷ z ∷ []) result.f }
     ensures bounded { IsModerate result.f }
+    ensures bound { unsigned_abs result.virial ≤ 3 * 2 ^ 70 }
 {
     let (f, g, h) = (
         product(negative, size, x),

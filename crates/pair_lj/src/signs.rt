@@ -48,23 +48,24 @@ pub(crate) fn product_size(size: u128, a: u64) -> u128
 
 /// The product of a length and a component of a force.
 fn work_along(x: i64, f: i64) -> i128
-    requires x { unsigned_abs x < 2 ^ 34 }
+    requires x { unsigned_abs x < 2 ^ 28 }
     requires f { unsigned_abs f ≤ 2 ^ 42 }
     ensures is { result ≡ x *ℤ f }
-    ensures bound { unsigned_abs result ≤ 2 ^ 76 }
+    ensures bound { unsigned_abs result ≤ 2 ^ 70 }
 {
     i128::from(x) * i128::from(f)
 }
 
 /// The product of the displacement (x, y, z) and the force (f, g, h).
 pub(crate) fn work(x: i64, y: i64, z: i64, f: i64, g: i64, h: i64) -> i128
-    requires x { unsigned_abs x < 2 ^ 34 }
-    requires y { unsigned_abs y < 2 ^ 34 }
-    requires z { unsigned_abs z < 2 ^ 34 }
+    requires x { unsigned_abs x < 2 ^ 28 }
+    requires y { unsigned_abs y < 2 ^ 28 }
+    requires z { unsigned_abs z < 2 ^ 28 }
     requires f { unsigned_abs f ≤ 2 ^ 42 }
     requires g { unsigned_abs g ≤ 2 ^ 42 }
     requires h { unsigned_abs h ≤ 2 ^ 42 }
-    ensures { result ≡ (x *ℤ f +ℤ y *ℤ g +ℤ z *ℤ h) }
+    ensures is { result ≡ (x *ℤ f +ℤ y *ℤ g +ℤ z *ℤ h) }
+    ensures bound { unsigned_abs result ≤ 3 * 2 ^ 70 }
 {
     work_along(x, f) + work_along(y, g) + work_along(z, h)
 }

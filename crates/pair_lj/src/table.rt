@@ -31,9 +31,9 @@ pub struct PairTable {
 }
 
 impl PairTable {
-    ghost use Rattle.std.specs.Prelude.{◌≡◌, ◌+◌, ◌<◌, ◌≤◌, ℕ, pos, unsigned_abs, ◌<ℤ◌, ◌≤ℤ◌, ◌*ℤ◌, IfOk, IfErr, OnOk, OnErr, IfSome, IfNone, IsSomeAnd, IsSome, IsNone, MatchOption};
+    ghost use Rattle.std.specs.Prelude.{◌≡◌, ◌⊎◌, ◌+◌, ◌<◌, ◌≤◌, ℕ, pos, unsigned_abs, ◌<ℤ◌, ◌≤ℤ◌, ◌*ℤ◌, IfOk, IfErr, OnOk, OnErr, IfSome, IfNone, IsSomeAnd, IsSome, IsNone, MatchOption};
     ghost use Rattle.pair_lj.specs.Places.{AreAllSet};
-    ghost use Rattle.pair_lj.specs.PairTerm.{pair_term, HasModerateForce, IsDisplacement};
+    ghost use Rattle.pair_lj.specs.PairTerm.{pair_term, HasModerateForce, HasModerateEnergy, HasModerateVirial, IsDisplacement};
     ghost use Rattle.pair_lj.specs.Table.{kinds_of, style_cutoff, coefficients_at, IsFinished, IsType, IsSamePair, AreNumbers, HasSameCoefficients, IsFirstUnset};
 
     /// A table of `kinds` atom types without coefficients, with `cut`, in units, as the cutoff of
@@ -77,6 +77,7 @@ impl PairTable {
         ensures set { IsSomeAnd (coefficients_at self.new i j) (λ k. AreNumbers k eps sigma cut) }
         ensures others { (a b : ℕ) → IsType self.old a → IsType self.old b → ¬ IsSamePair a b i j
             → coefficients_at self.new a b ≡ coefficients_at self.old a b }
+        ensures no_more { (a b : ℕ) → (coefficients_at self.new a b ≡ coefficients_at self.old a b) ⊎ (coefficients_at self.new a b ≡ coefficients_at self.new i j) }
         ensures kinds { kinds_of self.new ≡ kinds_of self.old }
         ensures cutoff { style_cutoff self.new ≡ style_cutoff self.old }
         ensures unfinished { ¬ IsFinished self.new }
@@ -148,6 +149,8 @@ impl PairTable {
         requires weight_high { weight ≤ℤ FULL_WEIGHT }
         ensures is { IsSomeAnd (coefficients_at self.now i j) (λ k. result ≡ pair_term k.epsilon k.sigma k.cutoff (pos 0) (unsigned_abs weight) d) }
         ensures bounded { IfOk result (λ t. IfSome t HasModerateForce) }
+        ensures energy { IfOk result (λ t. IfSome t HasModerateEnergy) }
+        ensures virial { IfOk result (λ t. IfSome t HasModerateVirial) }
         ensures step { steps.new ≡ steps.old + 1 }
     {
         steps.tick();

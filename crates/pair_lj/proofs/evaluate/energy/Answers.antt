@@ -4,8 +4,8 @@ use Rattle.fx_num.specs.Rounding.{shr_rounded, with_sign}
 use Rattle.pair_lj.proofs.SignLemmas.{energy_is, weighted_is}
 use Rattle.pair_lj.proofs.evaluate.energy.Goals as goal
 
-pub returns : goal.returns
-returns c =
+pub returns-clause-is : goal.returns-clause-is
+returns-clause-is c =
     let fits : FitsSigned w64 c.signed.result = search rules in
     to_z-of_z w64 c.signed.result fits
     ∙ c.signed.ensures.is

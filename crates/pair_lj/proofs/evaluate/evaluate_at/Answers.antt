@@ -1,11 +1,11 @@
-use Rattle.std.proofs.Common.{◌≡◌, ◌*◌, ◌^◌, ◌<◌, ◌≤◌, ℕ, ℤ, pos, ◌*ℤ◌, false, unsigned_abs, Ok, Some, Result, Option, List, [], ◌∷◌, w64, FitsSigned, rules, sym, ap, subst, ◌∙◌}
+use Rattle.std.proofs.Common.{◌≡◌, ◌*◌, ◌^◌, ◌<◌, ◌≤◌, ℕ, ℤ, pos, ◌*ℤ◌, false, unsigned_abs, Ok, Some, Result, Option, List, [], ◌∷◌, w64, FitsSigned, rules, arith, sym, ap, subst, ◌∙◌}
 use Rattle.std.proofs.lemmas.Int.{to_z-of_z}
 use Rattle.fx_num.specs.Rounding.{with_sign, shr_rounded}
 use Rattle.box_geo.specs.declared.term.Term.{Term}
 use Rattle.box_geo.specs.Sides.{length2}
 use Rattle.pair_lj.specs.declared.close.Close.{Close}
 use Rattle.pair_lj.specs.PairTerm.{inverse_square, sixth_power, twelfth_power, strength, energy_at, force_along, dot, is_too_near}
-use Rattle.pair_lj.proofs.Cases.{far, touching, near, near_false, too_strong, moderate, read_abs, read_r2, outside, inside, apart, read_ratio, read_sixth, read_twelfth, read_strength, read_energy, fits_each, small_strength, weighted_fits, weighted_moderate, strong_true, strong_false, term_is}
+use Rattle.pair_lj.proofs.Cases.{far, touching, near, near_false, too_strong, moderate, read_abs, read_r2, outside, inside, apart, read_ratio, read_sixth, read_twelfth, read_strength, read_energy, fits_each, short_parts, small_strength, weighted_fits, weighted_moderate, strong_true, strong_false, term_is}
 use Rattle.pair_lj.proofs.evaluate.evaluate_at.Goals as goal
 
 pub returns-then-square-r2-clause-is : goal.returns-then-square-r2-clause-is
@@ -96,6 +96,21 @@ pub term-requires-clause-small_z : goal.term-requires-clause-small_z
 term-requires-clause-small_z c =
     weighted_moderate c.weighted.result c.strength-negative.result.1 c.unsigned_abs-c.result _ c.weighted.ensures.bound c.unsigned_abs-c.ensures.value c.if-is_too_strong.ensures.2
 
+pub term-requires-clause-x : goal.term-requires-clause-x
+term-requires-clause-x c =
+    let short = short_parts c.unsigned_abs-a.result c.unsigned_abs-b.result c.unsigned_abs-c.result c.distance2-r2.result c.square.result c.args.k.cutoff c.distance2-r2.ensures c.square.ensures.is c.if-square-r2.false c.args.k.short in
+    omega (arith, short.0, c.unsigned_abs-a.ensures.value)
+
+pub term-requires-clause-y : goal.term-requires-clause-y
+term-requires-clause-y c =
+    let short = short_parts c.unsigned_abs-a.result c.unsigned_abs-b.result c.unsigned_abs-c.result c.distance2-r2.result c.square.result c.args.k.cutoff c.distance2-r2.ensures c.square.ensures.is c.if-square-r2.false c.args.k.short in
+    omega (arith, short.1, c.unsigned_abs-b.ensures.value)
+
+pub term-requires-clause-z : goal.term-requires-clause-z
+term-requires-clause-z c =
+    let short = short_parts c.unsigned_abs-a.result c.unsigned_abs-b.result c.unsigned_abs-c.result c.distance2-r2.result c.square.result c.args.k.cutoff c.distance2-r2.ensures c.square.ensures.is c.if-square-r2.false c.args.k.short in
+    omega (arith, short.2, c.unsigned_abs-c.ensures.value)
+
 pub returns-clause-is : goal.returns-clause-is
 returns-clause-is c =
     let a_is : c.unsigned_abs-a.result ≡ unsigned_abs c.args.x = read_abs c.unsigned_abs-a.result c.args.x c.ranges.x c.unsigned_abs-a.ensures.value in
@@ -118,7 +133,7 @@ returns-clause-is c =
     let f_is : c.term.result.f ≡ force_along (with_sign c.strength-negative.result.0 c.weighted.result) d = simp to_z-of_z at c.term.ensures.force in
     let virial_is : c.term.result.virial ≡ dot d c.term.result.f = simp to_z-of_z at c.term.ensures.virial in
     let e : ℤ = energy_at c.args.k.epsilon c.args.k.sigma (length2 d) in
-    let e_is : c.term.result.energy ≡ shr_rounded (e *ℤ pos c.args.weight) 24 = c.term.ensures.energy ∙ to_z-of_z w64 c.energy-energy.result fits ∙ read_energy c.energy-energy.result c.args.k.epsilon c.args.k.sigma c.cube-s6.result c.square_of_sixth-s12.result (length2 d) c.args.weight c.energy-energy.ensures s6_is s12_is in
+    let e_is : c.term.result.energy ≡ shr_rounded (e *ℤ pos c.args.weight) 24 = c.term.ensures.energy ∙ to_z-of_z w64 c.energy-energy.result fits ∙ read_energy c.energy-energy.result c.args.k.epsilon c.args.k.sigma c.cube-s6.result c.square_of_sixth-s12.result (length2 d) c.args.weight c.energy-energy.ensures.is s6_is s12_is in
     let same = term_is c.term.result c.strength-negative.result.0 c.strength-negative.result.1 c.weighted.result c.args.weight v e d f_is e_is virial_is v_is c.weighted.ensures.is in
     let step : Term → Result (Option Term) Close = λ t. Ok (Some t) in
     ap step same ∙ sym (moderate c.args.k.epsilon c.args.k.sigma c.args.k.cutoff (pos 0) c.args.weight d within wide (strong_false c.strength-negative.result.0 c.strength-negative.result.1 c.unsigned_abs-a.result c.unsigned_abs-b.result c.unsigned_abs-c.result v c.args.x c.args.y c.args.z v_is a_is b_is c_is c.if-is_too_strong.ensures))

@@ -1,5 +1,7 @@
+pub mod Bounds
 mod Worked
 mod WorkedPairs
+pub mod FieldLemmas
 pub mod ForceLemmas
 pub mod LeastLemmas
 pub mod PlaceLemmas

@@ -1,16 +1,16 @@
 -- Worked steps, in units worked out by hand: a box of 10 on each axis, mass 1, eps = sigma = 1, cutoff 2.5, skin 0.3.
-use Rattle.std.proofs.Common.{◌≡◌, ◌*◌, ◌^◌, Bool, true, false, ℕ, ℤ, pos, neg_ℤ, Some, List, [], ◌∷◌, refl}
+use Rattle.std.proofs.Common.{◌≡◌, ◌*◌, ◌^◌, Bool, true, false, ℕ, ℤ, pos, neg_ℤ, Some, List, [], ◌∷◌, map, refl}
 use Rattle.fx_num.specs.Rounding.{nearest_of, div_rounded}
 use Rattle.box_geo.specs.declared.atoms.Atom.{Atom}
 use Rattle.box_geo.specs.declared.sim_box.Extent.{Extent}
 use Rattle.box_geo.specs.declared.sim_box.Sides.{Sides}
 use Rattle.box_geo.specs.Fault.{no_fault}
 use Rattle.box_geo.specs.Sides.{near_image}
+use Rattle.box_geo.specs.Wrap.{wrap}
 use Rattle.pair_lj.specs.PairTerm.{inverse_square, sixth_power, twelfth_power, strength, energy_at, force_along, weighted_term, pair_term}
-use Rattle.serial_step.specs.Forces.{Field, term_of, force_on, pair_energy, pair_virial, terms_fault, with_forces, forces_fault, word}
+use Rattle.serial_step.specs.Forces.{Field, term_of, force_on, pair_energy, pair_virial, terms_fault, with_forces, forces_fault, force_word, least, word}
 use Rattle.serial_step.specs.Rebuild.{renews, neighbour_pairs}
 use Rattle.serial_step.specs.Step.{Setting, State, drifted, kicked_again, serial_step}
-use Rattle.serial_step.specs.Wrap.{wrap}
 
 abbrev side : Bool → Extent
 side periodic = record { lo = pos 0; hi = pos (10 * 2 ^ 24); periodic = periodic }
@@ -86,6 +86,34 @@ sums_at_two : pair_energy field (box true) (atom 1 (middle (pos (4 * 2 ^ 24))) n
 unfolding pair_energy term_of near_image pair_term weighted_term force_along energy_at strength twelfth_power sixth_power inverse_square nearest_of div_rounded
 sums_at_two = refl
 
+-- two atoms at distance 2, at rest, with the forces of 0.181640625 that they have there: half a kick, the drift, the new forces, half a kick
+abbrev resting : State
+resting = record {
+  step = 0;
+  atoms =
+      record (atom 1 (middle (pos (4 * 2 ^ 24))) none) { f = along_x (pos 3047424) }
+      ∷ record (atom 2 (middle (pos (6 * 2 ^ 24))) none) { f = along_x (neg_ℤ (pos 3047424)) }
+      ∷ [];
+  references = middle (pos (4 * 2 ^ 24)) ∷ middle (pos (6 * 2 ^ 24)) ∷ [];
+  builds = 0;
+}
+
+a_whole_step : serial_step (setting true 5033165) resting ≡ record {
+  fault = no_fault;
+  state = record {
+    step = 1;
+    atoms =
+        record { id = 1; mol = 0; kind = 1; x = middle (pos 67489792); v = along_x (pos 1652325); f = along_x (pos 3561874); image = none }
+        ∷ record { id = 2; mol = 0; kind = 1; x = middle (pos 100282368); v = along_x (neg_ℤ (pos 1652325)); f = along_x (neg_ℤ (pos 3561874)); image = none }
+        ∷ [];
+    references = middle (pos (4 * 2 ^ 24)) ∷ middle (pos (6 * 2 ^ 24)) ∷ [];
+    builds = 0;
+  };
+  sums = record { pair = neg_ℤ (pos 1181917); virial = neg_ℤ (pos 116803023847424) };
+}
+unfolding serial_step drifted kicked_again wrap renews with_forces force_on forces_fault terms_fault term_of pair_energy pair_virial near_image pair_term weighted_term force_along energy_at strength twelfth_power sixth_power inverse_square div_rounded nearest_of
+a_whole_step = refl
+
 -- ids 3, 5 and 7 at (5.1, 5, 5), (5, 5.1, 5) and (5, 5, 5): all pairs are too close, and the least key is that of 3 and 5
 abbrev at : ℕ → ℕ → List ℤ
 at x y = pos x ∷ pos y ∷ pos 83886080 ∷ []
@@ -93,6 +121,25 @@ at x y = pos x ∷ pos y ∷ pos 83886080 ∷ []
 three_close : forces_fault field (box true) (atom 3 (at 85563802 83886080) none ∷ atom 5 (at 83886080 85563802) none ∷ atom 7 (at 83886080 83886080) none ∷ []) ≡ word 2 1 3 5
 unfolding forces_fault terms_fault term_of near_image pair_term inverse_square nearest_of
 three_close = refl
+
+-- the same with the atoms in falling order: the least key, and not that of the first pair
+three_turned : forces_fault field (box true) (atom 7 (at 83886080 83886080) none ∷ atom 5 (at 83886080 85563802) none ∷ atom 3 (at 85563802 83886080) none ∷ []) ≡ word 2 1 3 5
+unfolding forces_fault terms_fault term_of near_image pair_term inverse_square nearest_of
+three_turned = refl
+
+-- five atoms at (5, 5, 5), and a sixth 33/64 from them: each pushes it by 261095, together above 2^20, and yet the fault is that of the first two
+abbrev crowd : List Atom
+crowd =
+    atom 1 (at 83886080 83886080) none ∷ atom 2 (at 83886080 83886080) none ∷ atom 3 (at 83886080 83886080) none
+    ∷ atom 4 (at 83886080 83886080) none ∷ atom 5 (at 83886080 83886080) none ∷ atom 6 (at 92536832 83886080) none ∷ []
+
+pushed_too_hard : least (map force_word (with_forces field (box true) crowd)) ≡ word 2 4 6 0
+unfolding with_forces force_on term_of near_image pair_term weighted_term force_along energy_at strength twelfth_power sixth_power inverse_square nearest_of div_rounded
+pushed_too_hard = refl
+
+close_judged_first : forces_fault field (box true) crowd ≡ word 2 1 1 2
+unfolding forces_fault terms_fault with_forces force_on term_of near_image pair_term weighted_term force_along energy_at strength twelfth_power sixth_power inverse_square nearest_of div_rounded
+close_judged_first = refl
 
 -- the footer's first number, for two atoms 2.7 apart and for two 2.8 apart: 2.5 and the skin are together 46976205 units
 near_pair : neighbour_pairs (box true) 46976205 (middle (pos 0) ∷ middle (pos 46976204) ∷ []) ≡ 1

@@ -8,9 +8,9 @@ use Rattle.box_geo.specs.declared.fault.FaultPhase.TheVariants.{Drift, Kick}
 use Rattle.box_geo.specs.declared.fault.FaultKind.TheVariants as kind
 use Rattle.box_geo.specs.Fault.{no_fault, phase_number, kind_number}
 use Rattle.box_geo.specs.Sides.{x_of, y_of, z_of}
+use Rattle.box_geo.specs.Wrap.{Wrapped, wrap}
 use Rattle.serial_step.specs.Forces.{Field, forces_fault, least, pair_energy, pair_virial, with_forces, word}
 use Rattle.serial_step.specs.Rebuild.{neighbour_pairs, positions, renews}
-use Rattle.serial_step.specs.Wrap.{Wrapped, wrap}
 
 -- what stands still in a run: the field, the box, the timestep, the mass of each type, the skin, the greatest cutoff, and which ids a fix moves
 pub record Setting : Type 0 where

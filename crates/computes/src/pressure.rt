@@ -1,7 +1,7 @@
 //! The pressure.
 ghost use Rattle.std.specs.Prelude.{◌≡◌, ◌≤◌, ◌*◌, ◌+◌, ◌^◌, ◌<◌, pos, ◌+ℤ◌, ◌*ℤ◌, unsigned_abs};
 ghost use Rattle.fx_num.specs.Rounding.{shr_rounded};
-ghost use Rattle.box_geo.specs.Sides.{volume_of};
+ghost use Rattle.box_geo.specs.Sides.{edge, volume_of};
 ghost use Rattle.computes.specs.Quantities.{pressure};
 
 use box_geo::SimBox;
@@ -15,6 +15,9 @@ pub fn press(s: i128, w: i128, cell: &SimBox) -> i128
     requires virial { unsigned_abs w ≤ 2 ^ 121 }
     ensures is { result ≡ pressure s w cell.now.sides }
     ensures small { unsigned_abs s ≤ 2 ^ 112 → unsigned_abs w ≤ 2 ^ 80 → unsigned_abs result ≤ 2 ^ 98 }
+    ensures fits { cell.now.sides.dim ≡ 3 → unsigned_abs s ≤ 2 ^ 116
+        → unsigned_abs w ≤ 2 ^ 81 * (unsigned_abs (edge cell.now.sides.x) + unsigned_abs (edge cell.now.sides.y) + unsigned_abs (edge cell.now.sides.z))
+        → unsigned_abs result ≤ 2 ^ 98 }
 {
     rdiv(scaled(s, w), directions(cell))
 }

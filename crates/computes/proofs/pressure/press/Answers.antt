@@ -1,6 +1,8 @@
 use Rattle.std.proofs.Common.{◌≡◌, ◌^◌, ◌≤◌, unsigned_abs, FitsSigned, to_z, of_z, arith, rules, ap}
 use Rattle.std.specs.Int.{w128}
 use Rattle.std.proofs.lemmas.Int.{to_z-of_z}
+use Rattle.computes.specs.Quantities.{pressure}
+use Rattle.computes.proofs.PressureLemmas.{pressure_fits}
 use Rattle.computes.proofs.pressure.press.Goals as goal
 
 pub returns-clause-small : goal.returns-clause-small
@@ -14,3 +16,10 @@ returns-clause-small c = λ (a : unsigned_abs c.args.s ≤ 2 ^ 112) (b : unsigne
     let below : unsigned_abs c.rdiv.result ≤ unsigned_abs (to_z w128 (of_z w128 c.scaled.result)) = c.rdiv.ensures.bound in
     let small : unsigned_abs c.scaled.result ≤ 2 ^ 98 = c.scaled.ensures.small (rw e3 a) (rw e4 b) in
     omega (arith, ap unsigned_abs e1, ap unsigned_abs e2)
+
+value_is : (c : goal.After-rdiv) → to_z w128 (of_z w128 c.rdiv.result) ≡ pressure c.args.s c.args.w c.args.cell.now.sides
+unfolding pressure
+value_is c = search rules
+
+pub returns-clause-fits : goal.returns-clause-fits
+returns-clause-fits c = λ space kinetic virial. rw (value_is c) (pressure_fits c.args.s c.args.w c.args.cell.now.sides c.args.cell.now.sound space kinetic virial)

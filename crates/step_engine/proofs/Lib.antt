@@ -1,0 +1,10 @@
+pub mod FaultLemmas
+pub mod ForcedLemmas
+pub mod LoopLemmas
+pub mod MotionLemmas
+pub mod PairLemmas
+pub mod RebuildLemmas
+pub mod RowLemmas
+pub mod SmallLemmas
+pub mod StateLemmas
+pub mod StepLemmas

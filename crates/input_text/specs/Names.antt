@@ -1,0 +1,38 @@
+-- Names of files, and ids.
+use Rattle.std.specs.Char.{is_ascii_alphanumeric}
+use Rattle.std.specs.Prelude.{◌==◌, ◌&&◌, ◌||◌, Bool, not, ℕ, nat_le, nat_eq, List, length, codes}
+use Rattle.std.specs.List.{list_all, ends_with}
+use Rattle.std.specs.Str.{bytes_eq}
+
+-- printable ASCII, but no blank, quote, `*` or `%`
+abbrev pub is_name_byte : ℕ → Bool
+is_name_byte c = nat_le 33 c && nat_le c 126 && not (c == 34) && not (c == 39) && not (c == 42) && not (c == 37)
+
+-- the name of a file: 1 to 255 such bytes
+abbrev pub is_file_name : List ℕ → Bool
+is_file_name name = nat_le 1 (length name) && nat_le (length name) 255 && list_all is_name_byte name
+
+-- a name that stands for a compressed file
+abbrev pub is_compressed : List ℕ → Bool
+is_compressed name =
+    ends_with nat_eq name (codes ".gz") || ends_with nat_eq name (codes ".bz2") || ends_with nat_eq name (codes ".xz") || ends_with nat_eq name (codes ".zst") || ends_with nat_eq name (codes ".lz4")
+
+-- the log's name
+abbrev pub log_name : List ℕ
+log_name = codes "log.lammps"
+
+-- the name under which pieces go to the screen
+abbrev pub screen_name : List ℕ
+screen_name = codes "*screen*"
+
+-- the name of a file that can be fetched: not the log, and not compressed
+unfoldable pub is_input_name : List ℕ → Bool
+is_input_name name = is_file_name name && not (bytes_eq name log_name) && not (is_compressed name)
+
+-- an ASCII digit, letter or `_`
+abbrev pub is_id_byte : ℕ → Bool
+is_id_byte c = is_ascii_alphanumeric c || (c == 95)
+
+-- an id, as of a fix: 1 to 64 such bytes
+abbrev pub is_id : List ℕ → Bool
+is_id name = nat_le 1 (length name) && nat_le (length name) 64 && list_all is_id_byte name

@@ -1,0 +1,9 @@
+pub mod AlwaysLemmas
+pub mod EntryLemmas
+pub mod FileLemmas
+pub mod GoesLemmas
+pub mod OrderLemmas
+pub mod RowLemmas
+pub mod SoundLemmas
+pub mod TextLemmas
+pub mod WrittenLemmas

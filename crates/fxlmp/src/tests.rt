@@ -1,5 +1,5 @@
-//! The words that say what is wrong with a command line.
-use crate::messages::WrongWord;
+//! The words that say what is wrong with a command line or a file.
+use crate::messages::{UnknownForm, WrongWord};
 use fx_num::{Seq, Text};
 use std::process::Abort;
 use std::test::Fail;
@@ -30,5 +30,20 @@ fn a_wrong_word_is_shown_at_its_place(rt: HostRuntime) -> Result<(), Fail> {
         let text = format!(in rt.alloc(); "{}", WrongWord { words, place })?;
         assert_eq!(rt; text.as_str(), want);
     }
+    Ok(())
+}
+
+#[test]
+fn a_file_in_another_form_is_shown_with_its_line(rt: HostRuntime) -> Result<(), Fail> {
+    let file = Text::from_bytes(rt.alloc(), b"in.two-atoms")?;
+    let unknown = UnknownForm {
+        file: &file,
+        line: 4,
+    };
+    let text = format!(in rt.alloc(); "{unknown}")?;
+    assert_eq!(rt;
+        text.as_str(),
+        "in.two-atoms:4: this version does not run such a line here (fxlmp --help shows the forms)"
+    );
     Ok(())
 }

@@ -1,6 +1,4 @@
-pub mod RestLemmas
-pub mod EndLemmas
-pub mod FormLemmas
-pub mod SendLemmas
+mod EndLemmas
+mod PartLemmas
 mod Worked
 mod WorkedLimits

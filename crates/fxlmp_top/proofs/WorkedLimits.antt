@@ -1,5 +1,5 @@
 -- The limits that the serial meaning cites by name, as numbers.
-use Rattle.std.proofs.Common.{◌≡◌, ◌^◌, ℕ, pos, refl}
+use Rattle.std.proofs.Common.{◌≡◌, ◌^◌, pos, refl}
 use Rattle.box_geo.specs.declared.limits.TheConstants.{DEFAULT_SKIN, MAX_CUTOFF, MAX_EPSILON, MAX_MASS, MAX_SCRIPT_BYTES, MAX_SIGMA, MIN_MASS}
 use Rattle.outside.specs.declared.shelf.TheConstants.{MAX_FETCHED}
 

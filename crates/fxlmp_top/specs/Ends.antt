@@ -1,52 +1,36 @@
 -- How a call ends, against what it was to write.
-use Rattle.std.specs.Prelude.{◌≡◌, ℕ, OnOk, IfErr, Option, Some, None, Result, Ok, Err, List}
+use Rattle.std.specs.Prelude.{◌≡◌, ℕ, Option, Result, Ok, Err, List}
 use Rattle.outside.specs.declared.press.Piece.{Piece}
 use Rattle.outside.specs.Sent.{plus, SendsFront, SendsCut}
-use Rattle.fxlmp_top.specs.declared.send.Stop.{Stop}
-use Rattle.fxlmp_top.specs.declared.send.Stop.TheVariants as stop
+use Rattle.fxlmp_top.specs.declared.status.Status.{Status}
+use Rattle.fxlmp_top.specs.declared.status.Status.TheVariants.{Done, ScriptRefused, RangeFault, ReadFault, WriteFault, NoMemory, Usage, NotBuilt}
+use Rattle.fxlmp_top.specs.declared.code.Code.{Code}
+use Rattle.fxlmp_top.specs.declared.code.Code.TheVariants.{EdgeTooSmall, FileTooLong, NoFile}
 use Rattle.fxlmp_top.specs.declared.fetch.Miss.{Miss}
 use Rattle.fxlmp_top.specs.declared.fetch.Miss.TheVariants as miss
-use Rattle.fxlmp_top.specs.declared.status.Status.{Status}
-use Rattle.fxlmp_top.specs.declared.status.Status.TheVariants.{Done, RangeFault, ReadFault, WriteFault, NoMemory, Usage, NotBuilt}
-use Rattle.fxlmp_top.specs.Serial.{Run}
+use Rattle.fxlmp_top.specs.Serial.{Fetched, Run, bytes, missing, refused, too_long}
 
--- what was sent where sending stopped: a front of the pieces, and after a failure of the press the next piece cut
-abbrev pub Stopped : Stop → Option (List Piece) → List Piece → Option (List Piece) → Type 0
-Stopped stop.WriteFault old pieces new = SendsCut old pieces new
-Stopped stop.NoMemory old pieces new = SendsFront old pieces new
-
--- how a run ends whose sending stopped
-abbrev pub status_after : Stop → Status
-status_after stop.WriteFault = WriteFault
-status_after stop.NoMemory = NoMemory
-
--- how a run ends whose text was not had
-abbrev pub status_of_miss : Miss → Status
-status_of_miss miss.NotBuilt = NotBuilt
-status_of_miss miss.ReadFault = ReadFault
-status_of_miss miss.NoMemory = NoMemory
-
--- a fetch has this text; it is missed exactly where there is none, unless a fault or want of memory came between
-abbrev pub Gets : Option (List ℕ) → Result (List ℕ) Miss → Type 0
-Gets had (Ok text) = had ≡ Some text
-Gets had (Err miss.NotBuilt) = had ≡ None
+-- a fetch has this text; it is missed exactly where there is none or one that is too long, unless a fault or want of memory came between
+abbrev pub Gets : Fetched → Result (List ℕ) Miss → Type 0
+Gets had (Ok text) = had ≡ bytes text
+Gets had (Err miss.Missing) = had ≡ missing
+Gets had (Err miss.TooLong) = had ≡ too_long
 Gets had (Err miss.ReadFault) = Unit {0}
 Gets had (Err miss.NoMemory) = Unit {0}
 
--- a call sends these pieces, or stops among them
-pub record Sends {T : Type 0} (old : Option (List Piece)) (pieces : List Piece) (result : Result T Stop) (new : Option (List Piece)) : Type 0 where
-  pub done : OnOk result (new ≡ plus old pieces)
-  pub stopped : IfErr result (λ why. Stopped why old pieces new)
-
 -- a call that is to write this run ends so: with its status and all its pieces, or with a front of them after a fault or without memory
 abbrev pub EndsAs : Status → Option (List Piece) → Run → Option (List Piece) → Type 0
-EndsAs Done old run new = (run.status ≡ Done) × (new ≡ plus old run.pieces)
-EndsAs (RangeFault key step) old run new = (run.status ≡ RangeFault key step) × (new ≡ plus old run.pieces)
-EndsAs (Usage place) old run new = (run.status ≡ Usage place) × (new ≡ plus old run.pieces)
-EndsAs NotBuilt old run new = (run.status ≡ NotBuilt) × (new ≡ plus old run.pieces)
 EndsAs ReadFault old run new = SendsFront old run.pieces new
 EndsAs NoMemory old run new = SendsFront old run.pieces new
 EndsAs WriteFault old run new = SendsCut old run.pieces new
+EndsAs status old run new = (run.status ≡ status) × (new ≡ plus old run.pieces)
+
+-- so does one whose text was missed: with the refusal of the file, or with nothing put after a fault or without memory
+abbrev pub EndsMissed : Miss → List ℕ → ℕ → Option (List Piece) → Status → Option (List Piece) → Type 0
+EndsMissed miss.Missing name line old status new = EndsAs status old (refused NoFile name line) new
+EndsMissed miss.TooLong name line old status new = EndsAs status old (refused FileTooLong name line) new
+EndsMissed miss.ReadFault name line old status new = (status ≡ ReadFault) × (new ≡ old)
+EndsMissed miss.NoMemory name line old status new = (status ≡ NoMemory) × (new ≡ old)
 
 -- the status is that of the run, unless a fault or want of memory ended the call
 abbrev pub IsSerialStatus : Status → Run → Type 0
@@ -79,9 +63,16 @@ IsComplete status old run new = (run.status ≡ status) × (new ≡ plus old run
 -- the number of a status, with which the program exits
 abbrev pub number_of : Status → ℕ
 number_of Done = 0
+number_of (ScriptRefused code file line) = 1
 number_of (RangeFault key step) = 2
 number_of ReadFault = 3
 number_of WriteFault = 4
 number_of NoMemory = 6
 number_of (Usage place) = 7
-number_of NotBuilt = 9
+number_of (NotBuilt file line) = 9
+
+-- the number of the code of a refusal
+abbrev pub code_number : Code → ℕ
+code_number NoFile = 19
+code_number FileTooLong = 20
+code_number EdgeTooSmall = 27

@@ -1,7 +1,4 @@
 pub mod Ends
-pub mod FirstForm
-pub mod Forms
-pub mod Names
-pub mod Rest
+pub mod Parts
 pub mod Serial
 pub mod Words

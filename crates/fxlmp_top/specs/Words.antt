@@ -1,7 +1,7 @@
 -- The words of the command line: exactly `-in F`, with F the name of a file that can be fetched.
 use Rattle.std.specs.Prelude.{cond, ℕ, List, [], ◌∷◌, Result, Ok, Err, codes}
 use Rattle.std.specs.Str.{bytes_eq}
-use Rattle.fxlmp_top.specs.Names.{is_input_name}
+use Rattle.input_text.specs.Names.{is_input_name}
 
 abbrev pub nothing_after : List ℕ → List (List ℕ) → Result (List ℕ) ℕ
 nothing_after name [] = Ok name

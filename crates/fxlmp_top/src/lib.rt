@@ -2,18 +2,15 @@
 //! shelf to the pieces of the serial meaning and its status.
 #![tactic(auto)]
 
-mod fault;
+mod code;
 mod fetch;
-mod first_form;
-mod forms;
-mod input;
-mod names;
-mod rest;
+mod parts;
+mod refuse;
 mod run;
-mod send;
 mod status;
 mod top;
 mod words;
 
+pub use code::Code;
 pub use status::Status;
 pub use top::{run_surely, run_words};

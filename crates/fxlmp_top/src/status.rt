@@ -2,13 +2,17 @@
 ghost use Rattle.std.specs.Prelude.{◌≡◌};
 ghost use Rattle.fxlmp_top.specs.Ends.{number_of};
 
+use crate::code::Code;
 use box_geo::FaultKey;
+use fx_num::Text;
 
 /// How a run ends.
-#[derive(Clone, Copy, Debug, PartialEq, Eq)]
+#[derive(Drop)]
 pub enum Status {
     /// The script was run to its end.
     Done,
+    /// A line of the script is refused, line 0 for the script as a whole.
+    ScriptRefused { code: Code, file: Text, line: u32 },
     /// A quantity left its range at this step; the key says which.
     RangeFault { key: FaultKey, step: u64 },
     /// The shelf failed.
@@ -20,8 +24,9 @@ pub enum Status {
     /// The words are no command line: the place of the first wrong word, or the number of words
     /// where one is missing.
     Usage { place: u64 },
-    /// A file is missing, too long, or in a form that is not built yet.
-    NotBuilt,
+    /// A file is not in a form that is built. The line is the first that no text of the form has after
+    /// the lines before it, or the last line plus 1.
+    NotBuilt { file: Text, line: u32 },
 }
 
 impl Status {
@@ -31,12 +36,13 @@ impl Status {
     {
         match self {
             Status::Done => 0,
+            Status::ScriptRefused { .. } => 1,
             Status::RangeFault { .. } => 2,
             Status::ReadFault => 3,
             Status::WriteFault => 4,
             Status::NoMemory => 6,
             Status::Usage { .. } => 7,
-            Status::NotBuilt => 9,
+            Status::NotBuilt { .. } => 9,
         }
     }
 }

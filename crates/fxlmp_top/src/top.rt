@@ -1,34 +1,58 @@
 //! The top call.
-ghost use Rattle.std.specs.Prelude.{◌≡◌, ◌≤◌, ◌↔◌, ℕ, List, Some, Ok, Err, None};
+ghost use Rattle.std.specs.Prelude.{◌≡◌, ◌≤◌, ◌↔◌, ℕ, List, Some, Ok, Err, IfNone};
 ghost use Rattle.outside.specs.Stock.{content, Rose};
 ghost use Rattle.outside.specs.declared.files.File.{File};
-ghost use Rattle.fxlmp_top.specs.Ends.{EndsAs, IsComplete, IsSerialStatus, SendsAll, SendsPart};
-ghost use Rattle.fxlmp_top.specs.FirstForm.{IsSoundScript};
-ghost use Rattle.fxlmp_top.specs.Serial.{run_file, run_text, serial, up_to};
+ghost use Rattle.nve_script.specs.Script.{IsSoundScript};
+ghost use Rattle.fxlmp_top.specs.Ends.{EndsAs, EndsMissed, IsComplete, IsSerialStatus, SendsAll, SendsPart};
+ghost use Rattle.fxlmp_top.specs.Serial.{fetched, run_input, run_text, serial};
 ghost use Rattle.fxlmp_top.specs.Words.{script_name};
 
-use crate::fetch::fetch;
-use crate::first_form::{Script, read_data, read_script};
-use crate::run::run_pair;
+use crate::code::Code;
+use crate::fetch::{Miss, fetch};
+use crate::refuse::{not_built, refuse};
+use crate::run::run_data;
 use crate::status::Status;
 use crate::words::script_name;
 use box_geo::limits::MAX_SCRIPT_BYTES;
 use fx_num::{Steps, Text};
+use input_text::Stop;
+use nve_data::read_data;
+use nve_script::{Script, read_script};
 use outside::{MAX_FETCHED, Press, Shelf, SurePress, SureShelf};
 use std::alloc::Global;
 use std::sync::ledger::Ledger;
 
-/// Runs a script over its data file.
+/// How a run ends that has no file at this line of the script: the log is the line of the refusal,
+/// and nothing is put where the shelf failed or memory was wanting.
+fn missed<P: Press>(alloc: Global, press: &mut P, miss: Miss, name: &Text, line: u32) -> Status
+    ensures ends { EndsMissed miss name.now line (P.sent press.old) result (P.sent press.new) }
+    ensures write { result ≡ Status.WriteFault → Rose (P.faults press.old) (P.faults press.new) }
+    ensures kept { P.faults press.old ≤ P.faults press.new }
+    ensures read { result ≡ Status.ReadFault → miss ≡ Miss.ReadFault }
+    ensures absent { (file : List ℕ) (place : ℕ) → result ≡ Status.ScriptRefused Code.NoFile file place → miss ≡ Miss.Missing }
+    ensures no_usage { (place : ℕ) → result ≡ Status.Usage place → ⊥ }
+{
+    match miss {
+        Miss::Missing => refuse(alloc, press, Code::NoFile, name, line),
+        Miss::TooLong => refuse(alloc, press, Code::FileTooLong, name, line),
+        Miss::ReadFault => Status::ReadFault,
+        Miss::NoMemory => Status::NoMemory,
+    }
+}
+
+/// Runs the script of this name over its data file.
 fn run_script<S: Shelf, P: Press, L: Ledger>(
     alloc: Global,
+    name: &Text,
     script: &Script,
     shelf: &mut S,
     press: &mut P,
     steps: &mut Steps<L>,
 ) -> Status
     requires { IsSoundScript script.now }
-    ensures ends { (files : List File) → S.stock shelf.old ≡ Some files → EndsAs result (P.sent press.old) (run_file script.now (up_to MAX_FETCHED (content files script.now.input))) (P.sent press.new) }
+    ensures ends { (files : List File) → S.stock shelf.old ≡ Some files → EndsAs result (P.sent press.old) (run_input name.now script.now (fetched MAX_FETCHED (content files script.now.head.input))) (P.sent press.new) }
     ensures read { result ≡ Status.ReadFault → Rose (S.faults shelf.old) (S.faults shelf.new) }
+    ensures absent { (file : List ℕ) (line : ℕ) → result ≡ Status.ScriptRefused Code.NoFile file line → IfNone (S.stock shelf.old) (Rose (S.absent shelf.old) (S.absent shelf.new)) }
     ensures write { result ≡ Status.WriteFault → Rose (P.faults press.old) (P.faults press.new) }
     ensures no_usage { (place : ℕ) → result ≡ Status.Usage place → ⊥ }
     ensures stays { S.stock shelf.new ≡ S.stock shelf.old }
@@ -36,14 +60,14 @@ fn run_script<S: Shelf, P: Press, L: Ledger>(
     ensures absent_kept { S.absent shelf.old ≤ S.absent shelf.new }
     ensures write_kept { P.faults press.old ≤ P.faults press.new }
 {
-    let text = match fetch(alloc, shelf, &script.input, MAX_FETCHED) {
+    let text = match fetch(alloc, shelf, &script.head.input, MAX_FETCHED) {
         Ok(text) => text,
-        Err(miss) => return miss.status(),
+        Err(miss) => return missed(alloc, press, miss, name, script.head.input_line),
     };
-    match read_data(alloc, &text, script.cutoff) {
-        Ok(Some(input)) => run_pair(alloc, script, &input, press, steps),
-        Ok(None) => Status::NotBuilt,
-        Err(_) => Status::NoMemory,
+    match read_data(alloc, text.as_bytes(), script.head.periodic) {
+        Ok(data) => run_data(alloc, name, script, data, press, steps),
+        Err(Stop::Line(line)) => not_built(alloc, &script.head.input, line),
+        Err(Stop::NoMemory) => Status::NoMemory,
     }
 }
 
@@ -55,8 +79,9 @@ fn run_named<S: Shelf, P: Press, L: Ledger>(
     press: &mut P,
     steps: &mut Steps<L>,
 ) -> Status
-    ensures ends { (files : List File) → S.stock shelf.old ≡ Some files → EndsAs result (P.sent press.old) (run_text files (up_to MAX_SCRIPT_BYTES (content files name.now))) (P.sent press.new) }
+    ensures ends { (files : List File) → S.stock shelf.old ≡ Some files → EndsAs result (P.sent press.old) (run_text files name.now (fetched MAX_SCRIPT_BYTES (content files name.now))) (P.sent press.new) }
     ensures read { result ≡ Status.ReadFault → Rose (S.faults shelf.old) (S.faults shelf.new) }
+    ensures absent { (file : List ℕ) (line : ℕ) → result ≡ Status.ScriptRefused Code.NoFile file line → IfNone (S.stock shelf.old) (Rose (S.absent shelf.old) (S.absent shelf.new)) }
     ensures write { result ≡ Status.WriteFault → Rose (P.faults press.old) (P.faults press.new) }
     ensures no_usage { (place : ℕ) → result ≡ Status.Usage place → ⊥ }
     ensures stays { S.stock shelf.new ≡ S.stock shelf.old }
@@ -66,12 +91,12 @@ fn run_named<S: Shelf, P: Press, L: Ledger>(
 {
     let text = match fetch(alloc, shelf, name, MAX_SCRIPT_BYTES as u64) {
         Ok(text) => text,
-        Err(miss) => return miss.status(),
+        Err(miss) => return missed(alloc, press, miss, name, 0),
     };
-    match read_script(alloc, &text) {
-        Ok(Some(script)) => run_script(alloc, &script, shelf, press, steps),
-        Ok(None) => Status::NotBuilt,
-        Err(_) => Status::NoMemory,
+    match read_script(alloc, text.as_bytes()) {
+        Ok(script) => run_script(alloc, name, &script, shelf, press, steps),
+        Err(Stop::Line(line)) => not_built(alloc, name, line),
+        Err(Stop::NoMemory) => Status::NoMemory,
     }
 }
 
@@ -86,6 +111,7 @@ fn run<S: Shelf, P: Press, L: Ledger>(
 ) -> Status
     ensures ends { (files : List File) → S.stock shelf.old ≡ Some files → EndsAs result (P.sent press.old) (serial files words.now) (P.sent press.new) }
     ensures read { result ≡ Status.ReadFault → Rose (S.faults shelf.old) (S.faults shelf.new) }
+    ensures absent { (file : List ℕ) (line : ℕ) → result ≡ Status.ScriptRefused Code.NoFile file line → IfNone (S.stock shelf.old) (Rose (S.absent shelf.old) (S.absent shelf.new)) }
     ensures write { result ≡ Status.WriteFault → Rose (P.faults press.old) (P.faults press.new) }
     ensures usage { (place : ℕ) → (result ≡ Status.Usage place) ↔ (script_name words.now ≡ Err place) }
     ensures untouched { (place : ℕ) → script_name words.now ≡ Err place → (P.sent press.new ≡ P.sent press.old) × (P.faults press.new ≡ P.faults press.old) × (S.faults shelf.new ≡ S.faults shelf.old) × (S.absent shelf.new ≡ S.absent shelf.old) }
@@ -130,8 +156,11 @@ pub fn run_words<S: Shelf, P: Press, L: Ledger>(
     ensures usage { (place : ℕ) → (result ≡ Status.Usage place) ↔ (script_name words.now ≡ Err place) }
     ensures usage_untouched { (place : ℕ) → script_name words.now ≡ Err place → (P.sent press.new ≡ P.sent press.old) × (P.faults press.new ≡ P.faults press.old) × (S.faults shelf.new ≡ S.faults shelf.old) × (S.absent shelf.new ≡ S.absent shelf.old) }
 
-    // Nothing is put where a file is missing, too long or not in a form that is built.
-    ensures not_built { (files : List File) → S.stock shelf.old ≡ Some files → result ≡ Status.NotBuilt → P.sent press.new ≡ P.sent press.old }
+    // Nothing is put where a file is not in a form that is built.
+    ensures not_built { (files : List File) (file : List ℕ) (line : ℕ) → S.stock shelf.old ≡ Some files → result ≡ Status.NotBuilt file line → P.sent press.new ≡ P.sent press.old }
+
+    // Where the shelf does not tell its files, one is missing only by what the shelf answered.
+    ensures no_file { (file : List ℕ) (line : ℕ) → result ≡ Status.ScriptRefused Code.NoFile file line → IfNone (S.stock shelf.old) (Rose (S.absent shelf.old) (S.absent shelf.new)) }
 
     ensures stock_stays { S.stock shelf.new ≡ S.stock shelf.old }
     ensures read_kept { S.faults shelf.old ≤ S.faults shelf.new }

@@ -2,8 +2,8 @@
 ghost use Rattle.std.specs.Prelude.{◌≡◌, MatchResult, Ok, Err};
 ghost use Rattle.fxlmp_top.specs.Words.{name_after, script_name};
 
-use crate::names::is_input_name;
 use fx_num::Text;
+use input_text::is_input_name;
 
 /// The word before the script's name.
 const IN: &[u8] = b"-in";

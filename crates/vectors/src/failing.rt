@@ -27,14 +27,14 @@ fn a_failing_shelf_ends_the_run_before_anything_is_sent(rt: HostRuntime) -> Resu
     for call in [0, 1] {
         let fail = Calls::new(vec![in rt.alloc(); call]?);
         let (status, press) = run_failing(&rt, fail, Cuts::new(Vec::new(rt.alloc())))?;
-        assert_eq!(rt; status, Status::ReadFault, "call {call}");
+        assert!(rt; matches!(status, Status::ReadFault), "call {call}");
         assert_eq!(rt; status.number(), 3);
         assert_eq!(rt; press.pieces().len(), 0, "call {call}");
     }
     // there is no third call
     let fail = Calls::new(vec![in rt.alloc(); 2]?);
     let (status, press) = run_failing(&rt, fail, Cuts::new(Vec::new(rt.alloc())))?;
-    assert_eq!(rt; status, Status::Done);
+    assert!(rt; matches!(status, Status::Done));
     check_pieces(
         &rt,
         press.pieces(),
@@ -58,7 +58,7 @@ fn run_cut(
 #[test]
 fn a_press_that_fails_after_five_bytes_of_the_line(rt: HostRuntime) -> Result<(), Fail> {
     let (status, press) = run_cut(&rt, 2, 5)?;
-    assert_eq!(rt; status, Status::WriteFault);
+    assert!(rt; matches!(status, Status::WriteFault));
     assert_eq!(rt; status.number(), 4);
     let blanks = b"     ".as_slice();
     let want = [
@@ -75,9 +75,8 @@ fn a_failing_put_cuts_its_piece_alone(rt: HostRuntime) -> Result<(), Fail> {
     for call in 0..6 {
         for kept in [0, 1, usize::MAX] {
             let (status, press) = run_cut(&rt, call as u64, kept as u64)?;
-            assert_eq!(rt;
-                status,
-                Status::WriteFault,
+            assert!(rt;
+                matches!(status, Status::WriteFault),
                 "call {call} after {kept} bytes"
             );
             let mut want = whole_log(LINE_AT_TWO, ONE_PAIR);
@@ -88,7 +87,7 @@ fn a_failing_put_cuts_its_piece_alone(rt: HostRuntime) -> Result<(), Fail> {
     }
     // there is no seventh put
     let (status, press) = run_cut(&rt, 6, 0)?;
-    assert_eq!(rt; status, Status::Done);
+    assert!(rt; matches!(status, Status::Done));
     check_pieces(
         &rt,
         press.pieces(),

@@ -13,3 +13,5 @@ mod logs;
 mod refusals;
 #[cfg(test)]
 mod setting;
+#[cfg(test)]
+mod steps;

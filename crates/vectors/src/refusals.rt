@@ -1,6 +1,7 @@
-//! Command lines, scripts and data files that are refused: nothing is sent then.
+//! Command lines, scripts and data files that are refused.
 use crate::setting::*;
-use fxlmp_top::Status;
+use fxlmp_top::{Code, Status};
+use outside::Piece;
 use std::alloc::Global;
 use std::process::Abort;
 use std::test::Fail;
@@ -23,8 +24,11 @@ fn check_usage(rt: &(impl Abort + AllocGlobal), words: &[&str], place: u64) -> R
         ("log.lammps", SCRIPT),
     ];
     let (status, press) = run_over_files(rt, words, &files)?;
-    assert_eq!(rt; status, Status::Usage { place }, "{words:?}");
-    assert_eq!(rt; status.number(), 7);
+    assert_eq!(rt; status.number(), 7, "{words:?}");
+    match status {
+        Status::Usage { place: told } => assert_eq!(rt; told, place, "{words:?}"),
+        _ => panic!(rt; "{words:?}: another status"),
+    }
     assert_eq!(rt; press.pieces().len(), 0, "{words:?}");
     Ok(())
 }
@@ -47,62 +51,150 @@ fn a_wrong_command_line_is_told_by_its_place(rt: HostRuntime) -> Result<(), Fail
     check_usage(&rt, &["-in", too_long.as_str()], 1)
 }
 
-/// Asserts that the words over these files are answered as not built, and that nothing is sent.
-fn check_not_built(
+/// Asserts that the pieces are a log of the line of this refusal.
+fn check_refusal(
+    rt: &(impl Abort + AllocGlobal),
+    pieces: &[Piece],
+    code: Code,
+    name: &str,
+    line: u32,
+) -> Result<(), Fail> {
+    let code = code.name();
+    let text = format!(in rt.alloc(); "ERROR: {code} at {name}:{line}\n")?;
+    let bytes = text.as_bytes();
+    check_pieces(
+        rt,
+        pieces,
+        &[(LOG, true, bytes), (SCREEN, true, bytes)],
+        name,
+    );
+    Ok(())
+}
+
+/// Asserts that the words over these files are refused with this code at this line of this file, and
+/// that the log is the line of the refusal.
+fn check_refused(
     rt: &(impl Abort + AllocGlobal),
     words: &[&str],
     files: &[(&str, &str)],
-    case: &str,
+    code: Code,
+    name: &str,
+    line: u32,
 ) -> Result<(), Fail> {
     let (status, press) = run_over_files(rt, words, files)?;
-    assert_eq!(rt; status, Status::NotBuilt, "{case}");
-    assert_eq!(rt; status.number(), 9);
+    assert_eq!(rt; status.number(), 1, "{name}");
+    match &status {
+        Status::ScriptRefused {
+            code: told,
+            file,
+            line: at,
+        } => {
+            assert_eq!(rt; *told, code, "line {line}");
+            assert_eq!(rt; file.as_bytes(), name.as_bytes(), "line {line}");
+            assert_eq!(rt; *at, line);
+        }
+        _ => panic!(rt; "{name}: another status"),
+    }
+    check_refusal(rt, press.pieces(), code, name, line)
+}
+
+#[test]
+fn a_missing_file_is_told_in_the_log(rt: HostRuntime) -> Result<(), Fail> {
+    let data = data_file(rt.alloc(), "10", AT_TWO)?;
+    let longest = letters(rt.alloc(), 255)?;
+    let files = [(SCRIPT_NAME, SCRIPT), (DATA_NAME, data.as_str())];
+    check_refused(&rt, &["-in", "nofile"], &files, Code::NoFile, "nofile", 0)?;
+    check_refused(&rt, WORDS, &files[1..], Code::NoFile, SCRIPT_NAME, 0)?;
+    check_refused(&rt, WORDS, &files[..1], Code::NoFile, SCRIPT_NAME, 3)?;
+    let name = longest.as_str();
+    check_refused(&rt, &["-in", name], &files, Code::NoFile, name, 0)
+}
+
+#[test]
+fn a_box_without_room_is_told_in_the_log(rt: HostRuntime) -> Result<(), Fail> {
+    // 93952409 units, and twice the cutoff and the skin are 93952410
+    let data = data_file(rt.alloc(), "5.59999996", "1 1 1 5 5\n2 1 3 5 5\n")?;
+    let files = [(SCRIPT_NAME, SCRIPT), (DATA_NAME, data.as_str())];
+    check_refused(&rt, WORDS, &files, Code::EdgeTooSmall, SCRIPT_NAME, 6)
+}
+
+/// Asserts that the script over this data file is answered as not built at this line of this file, and
+/// that nothing is sent.
+fn check_not_built(
+    rt: &(impl Abort + AllocGlobal),
+    script: &str,
+    data: &str,
+    (name, line): (&str, u32),
+    case: &str,
+) -> Result<(), Fail> {
+    let files = [(SCRIPT_NAME, script), (DATA_NAME, data)];
+    let (status, press) = run_over_files(rt, WORDS, &files)?;
+    assert_eq!(rt; status.number(), 9, "{case}");
+    match &status {
+        Status::NotBuilt { file, line: at } => {
+            assert_eq!(rt; file.as_bytes(), name.as_bytes(), "{case}");
+            assert_eq!(rt; *at, line, "{case}");
+        }
+        _ => panic!(rt; "{case}: another status"),
+    }
     assert_eq!(rt; press.pieces().len(), 0, "{case}");
     Ok(())
 }
 
 #[test]
-fn a_missing_file_is_not_built(rt: HostRuntime) -> Result<(), Fail> {
+fn a_script_in_another_form_is_not_built(rt: HostRuntime) -> Result<(), Fail> {
     let data = data_file(rt.alloc(), "10", AT_TWO)?;
-    let longest = letters(rt.alloc(), 255)?;
-    let files = [(SCRIPT_NAME, SCRIPT), (DATA_NAME, data.as_str())];
-    check_not_built(&rt, WORDS, &files[1..], "no script")?;
-    check_not_built(&rt, WORDS, &files[..1], "no data file")?;
-    check_not_built(
-        &rt,
-        &["-in", longest.as_str()],
-        &files,
-        "no file of the longest name",
-    )
+    let rows = [
+        (
+            "a second space",
+            "units lj\natom_style atomic\nread_data data.two\npair_style lj/cut  2.5\npair_coeff 1 1 1.0 1.0\nrun 0\n",
+            4,
+        ),
+        (
+            "an optional line at another place",
+            "units lj\natom_style atomic\nboundary p p p\nread_data data.two\npair_style lj/cut 2.5\npair_coeff 1 1 1.0 1.0\nrun 0\n",
+            3,
+        ),
+        (
+            "no last line",
+            "units lj\natom_style atomic\nread_data data.two\npair_style lj/cut 2.5\npair_coeff 1 1 1.0 1.0\n",
+            6,
+        ),
+        (
+            "a line behind the last",
+            "units lj\natom_style atomic\nread_data data.two\npair_style lj/cut 2.5\npair_coeff 1 1 1.0 1.0\nrun 0\nrun 0\n",
+            7,
+        ),
+        ("no line at all", "", 1),
+    ];
+    for (case, script, line) in rows {
+        check_not_built(&rt, script, data.as_str(), (SCRIPT_NAME, line), case)?;
+    }
+    Ok(())
 }
 
 #[test]
-fn another_form_is_not_built(rt: HostRuntime) -> Result<(), Fail> {
-    let two_spaces =
-        "units lj\natom_style atomic\nread_data data.two\npair_style lj/cut  2.5\npair_coeff 1 1 1.0 1.0\nrun 0\n";
+fn a_data_file_in_another_form_is_not_built(rt: HostRuntime) -> Result<(), Fail> {
     let rows = [
-        ("a second space", two_spaces, "10", AT_TWO),
-        ("no last line", SCRIPT, "10", "1 1 4 5 5\n"),
-        ("no last line feed", SCRIPT, "10", "1 1 4 5 5\n2 1 6 5 5"),
-        (
-            "an atom outside the box",
-            SCRIPT,
-            "10",
-            "1 1 4 5 5\n2 1 10 5 5\n",
-        ),
-        // 93952409 units, and twice the cutoff and the skin are 93952410
-        (
-            "no room for the cutoff",
-            SCRIPT,
-            "5.59999996",
-            "1 1 1 5 5\n2 1 3 5 5\n",
-        ),
+        ("no last line", "1 1 4 5 5\n", 16),
+        ("no last line feed", "1 1 4 5 5\n2 1 6 5 5", 16),
+        ("an atom outside the box", "1 1 4 5 5\n2 1 10 5 5\n", 16),
+        ("an id twice", "1 1 4 5 5\n1 1 6 5 5\n", 16),
+        ("a line too many", "1 1 4 5 5\n2 1 6 5 5\n3 1 8 5 5\n", 17),
     ];
-    for (case, script, edge, atoms) in rows {
-        let data = data_file(rt.alloc(), edge, atoms)?;
-        let files = [(SCRIPT_NAME, script), (DATA_NAME, data.as_str())];
-        check_not_built(&rt, WORDS, &files, case)?;
+    for (case, atoms, line) in rows {
+        let data = data_file(rt.alloc(), "10", atoms)?;
+        check_not_built(&rt, SCRIPT, data.as_str(), (DATA_NAME, line), case)?;
     }
+    Ok(())
+}
+
+#[test]
+fn a_script_is_judged_before_its_data_file_is_fetched(rt: HostRuntime) -> Result<(), Fail> {
+    let script = "units lj\natom_style atomic\nread_data data.two\nrun 0\n";
+    let (status, press) = run_over_files(&rt, WORDS, &[(SCRIPT_NAME, script)])?;
+    assert_eq!(rt; status.number(), 9);
+    assert_eq!(rt; press.pieces().len(), 0);
     Ok(())
 }
 
@@ -127,7 +219,7 @@ fn a_script_has_at_most_two_to_the_20_bytes(rt: HostRuntime) -> Result<(), Fail>
     assert_eq!(rt; longest.len(), 1 << 20);
     let files = [(SCRIPT_NAME, longest.as_str()), (DATA_NAME, data.as_str())];
     let (status, press) = run_over_files(&rt, WORDS, &files)?;
-    assert_eq!(rt; status, Status::Done);
+    assert!(rt; matches!(status, Status::Done));
     check_pieces(
         &rt,
         press.pieces(),
@@ -137,5 +229,5 @@ fn a_script_has_at_most_two_to_the_20_bytes(rt: HostRuntime) -> Result<(), Fail>
 
     let too_long = script_with_zeros(rt.alloc(), zeros + 1)?;
     let files = [(SCRIPT_NAME, too_long.as_str()), (DATA_NAME, data.as_str())];
-    check_not_built(&rt, WORDS, &files, "2^20 + 1 bytes")
+    check_refused(&rt, WORDS, &files, Code::FileTooLong, SCRIPT_NAME, 0)
 }

@@ -1,4 +1,4 @@
-//! Scripts and data files of two atoms, the program run over a shelf and a press, and what it sends.
+//! Scripts and data files of few atoms, the program run over a shelf and a press, and what it sends.
 ghost use Rattle.std.specs.Prelude.{◌≡◌, ◌<◌};
 
 use fx_num::{NoMemory, Seq, Steps, Text};
@@ -50,6 +50,22 @@ pub(crate) const SCREEN: &[u8] = b"*screen*";
 pub(crate) fn data_file(alloc: Global, edge: &str, atoms: &str) -> Result<String, Fail> {
     Ok(format!(in alloc;
         "two atoms\n\n2 atoms\n1 atom types\n0 {edge} xlo xhi\n0 {edge} ylo yhi\n0 {edge} zlo zhi\n\nMasses\n\n1 1.0\n\nAtoms\n\n{atoms}"
+    )?)
+}
+
+/// The script with these boundaries and these lines before the last, which runs one step. Each line
+/// ends with its line feed.
+pub(crate) fn step_script(alloc: Global, boundary: &str, settings: &str) -> Result<String, Fail> {
+    Ok(format!(in alloc;
+        "units lj\n{boundary}atom_style atomic\nread_data data.two\npair_style lj/cut 2.5\npair_coeff 1 1 1.0 1.0\n{settings}run 1\n"
+    )?)
+}
+
+/// A data file of one atom at this place on the x axis, with this velocity along it, in a cube from 0 to
+/// 10.
+pub(crate) fn one_atom(alloc: Global, x: &str, speed: &str) -> Result<String, Fail> {
+    Ok(format!(in alloc;
+        "one atom\n\n1 atoms\n1 atom types\n0 10 xlo xhi\n0 10 ylo yhi\n0 10 zlo zhi\n\nMasses\n\n1 1.0\n\nAtoms\n\n1 1 {x} 5 5\n\nVelocities\n\n1 {speed} 0 0\n"
     )?)
 }
 
@@ -139,6 +155,21 @@ pub(crate) fn run_over_files(
         Blank::new(1),
     );
     Ok((status, press))
+}
+
+/// The pieces of a log of these texts: each under the log's name and for the screen, the first fresh.
+pub(crate) fn log_of<'a>(
+    alloc: Global,
+    texts: &[&'a [u8]],
+) -> Result<Vec<(&'a [u8], bool, &'a [u8])>, NoMemory> {
+    let mut pieces = Vec::new(alloc);
+    let mut fresh = true;
+    for text in texts {
+        pieces.push((LOG, fresh, *text))?;
+        pieces.push((SCREEN, fresh, *text))?;
+        fresh = false;
+    }
+    Ok(pieces)
 }
 
 /// The pieces of a run to its end, with this line and this last text.

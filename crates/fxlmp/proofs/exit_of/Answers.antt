@@ -1,6 +1,6 @@
 use Rattle.std.proofs.Common.{◌≡◌, ◌∙◌, ℕ, List, Result, Ok, Err, arith, refl, sym, ap}
 use Rattle.fxlmp_top.specs.declared.status.Status.{Status}
-use Rattle.fxlmp_top.specs.declared.status.Status.TheVariants.{Done, RangeFault, ReadFault, WriteFault, NoMemory, Usage, NotBuilt}
+use Rattle.fxlmp_top.specs.declared.status.Status.TheVariants.{Done, ScriptRefused, RangeFault, ReadFault, WriteFault, NoMemory, Usage, NotBuilt}
 use Rattle.fxlmp_top.specs.Ends.{number_of}
 use Rattle.fxlmp_top.specs.Words.{script_name}
 use Rattle.fxlmp.specs.Request.{request_of}
@@ -13,12 +13,13 @@ same_words r a b p q = cc
 -- 7 is the number of Usage alone
 only_usage : (s : Status) → number_of s ≡ 7 → ((place : ℕ) → s ≡ Usage place → ⊥) → ⊥
 only_usage Done is no_usage = omega arith
+only_usage (ScriptRefused code file line) is no_usage = omega arith
 only_usage (RangeFault key step) is no_usage = omega arith
 only_usage ReadFault is no_usage = omega arith
 only_usage WriteFault is no_usage = omega arith
 only_usage NoMemory is no_usage = omega arith
 only_usage (Usage place) is no_usage = no_usage place refl
-only_usage NotBuilt is no_usage = omega arith
+only_usage (NotBuilt file line) is no_usage = omega arith
 
 not_both : (r : Result (List ℕ) ℕ) (name : List ℕ) (place : ℕ) → r ≡ Ok name → r ≡ Err place → ⊥
 not_both r name place good bad = cc

@@ -1,0 +1,6 @@
+pub mod FieldLemmas
+pub mod KeyLemmas
+pub mod NumberLemmas
+pub mod PartLemmas
+pub mod RunLemmas
+pub mod StepLemmas

@@ -45,10 +45,13 @@ class Atom:
 
 
 class Run:
-    def __init__(self, script):
+    """A run of a script, or, without one, of what is set by hand: the box, the atoms, the coefficients."""
+
+    def __init__(self, script=None):
         self.periodic, self.skin, self.dt, self.every, self.moving = [True] * 3, 5033165, 83886, 0, False
-        self.read_script(script)
         self.step, self.builds = 0, 0
+        if script is not None:
+            self.read_script(script)
 
     def read_script(self, name):
         for line in open(name):
@@ -161,6 +164,10 @@ class Run:
         if faults:
             raise Fault("%s %d 0 in drift" % (min(faults)[2], min(faults)[1]))
 
+    def set_up(self):
+        self.references = [list(a.x) for a in self.atoms]
+        self.forces()
+
     def one_step(self):
         self.step += 1
         if self.moving:
@@ -199,8 +206,7 @@ class Run:
             print("ERROR: EdgeTooSmall at %s:%d" % (script, sum(1 for _ in open(script))))
             return
         try:
-            self.references = [list(a.x) for a in self.atoms]
-            self.forces()
+            self.set_up()
             print("%10s" % "Step" + "".join(" %20s" % c for c in ["Temp", "E_pair", "E_mol", "TotEng", "Press"]))
             self.line()
             while self.step < self.last:

@@ -34,6 +34,7 @@ pub(crate) fn fetch<S: Shelf>(
     ensures told { (files : List File) → S.stock shelf.old ≡ Some files → Gets (fetched limit (content files name.now)) result }
     ensures short { IfOk result (λ text. length text ≤ limit) }
     ensures absent { IsErrOf result Miss.Missing → IfNone (S.stock shelf.old) (Rose (S.absent shelf.old) (S.absent shelf.new)) }
+    ensures long { limit ≡ MAX_FETCHED → IsErrOf result Miss.TooLong → IfNone (S.stock shelf.old) (Rose (S.absent shelf.old) (S.absent shelf.new)) }
     ensures read { IsErrOf result Miss.ReadFault → Rose (S.faults shelf.old) (S.faults shelf.new) }
     ensures faults_kept { S.faults shelf.old ≤ S.faults shelf.new }
     ensures absent_kept { S.absent shelf.old ≤ S.absent shelf.new }
@@ -53,6 +54,7 @@ fn within(text: Text, limit: u64) -> Result<Text, Miss>
     ensures short { IfOk result (λ text. length text ≤ limit) }
     ensures no_fault { IsErrOf result Miss.ReadFault → ⊥ }
     ensures no_absence { IsErrOf result Miss.Missing → ⊥ }
+    ensures no_excess { length text ≤ limit → IsErrOf result Miss.TooLong → ⊥ }
 {
     if text.as_bytes().len() as u64 <= limit {
         Ok(text)

@@ -50,6 +50,7 @@ pub(crate) fn refuse<P: Press>(
     ensures write { result ≡ Status.WriteFault → Rose (P.faults press.old) (P.faults press.new) }
     ensures kept { P.faults press.old ≤ P.faults press.new }
     ensures code { (why : Code) (name : List ℕ) (place : ℕ) → result ≡ Status.ScriptRefused why name place → why ≡ code }
+    ensures at { (why : Code) (name : List ℕ) (place : ℕ) → result ≡ Status.ScriptRefused why name place → place ≡ line }
     ensures no_usage { (place : ℕ) → result ≡ Status.Usage place → ⊥ }
     ensures no_read { result ≡ Status.ReadFault → ⊥ }
     ensures no_unbuilt { (name : List ℕ) (place : ℕ) → result ≡ Status.NotBuilt name place → ⊥ }

@@ -1,5 +1,5 @@
 //! The top call.
-ghost use Rattle.std.specs.Prelude.{◌≡◌, ◌≤◌, ◌↔◌, ℕ, List, Some, Ok, Err, IfNone};
+ghost use Rattle.std.specs.Prelude.{◌≡◌, ◌<◌, ◌≤◌, ◌↔◌, ℕ, List, Some, Ok, Err, IfNone};
 ghost use Rattle.outside.specs.Stock.{content, Rose};
 ghost use Rattle.outside.specs.declared.files.File.{File};
 ghost use Rattle.nve_script.specs.Script.{IsSoundScript};
@@ -30,6 +30,7 @@ fn missed<P: Press>(alloc: Global, press: &mut P, miss: Miss, name: &Text, line:
     ensures kept { P.faults press.old ≤ P.faults press.new }
     ensures read { result ≡ Status.ReadFault → miss ≡ Miss.ReadFault }
     ensures absent { (file : List ℕ) (place : ℕ) → result ≡ Status.ScriptRefused Code.NoFile file place → miss ≡ Miss.Missing }
+    ensures long { (file : List ℕ) (place : ℕ) → result ≡ Status.ScriptRefused Code.FileTooLong file place → (miss ≡ Miss.TooLong) × (place ≡ line) }
     ensures no_usage { (place : ℕ) → result ≡ Status.Usage place → ⊥ }
 {
     match miss {
@@ -53,6 +54,7 @@ fn run_script<S: Shelf, P: Press, L: Ledger>(
     ensures ends { (files : List File) → S.stock shelf.old ≡ Some files → EndsAs result (P.sent press.old) (run_input name.now script.now (fetched MAX_FETCHED (content files script.now.head.input))) (P.sent press.new) }
     ensures read { result ≡ Status.ReadFault → Rose (S.faults shelf.old) (S.faults shelf.new) }
     ensures absent { (file : List ℕ) (line : ℕ) → result ≡ Status.ScriptRefused Code.NoFile file line → IfNone (S.stock shelf.old) (Rose (S.absent shelf.old) (S.absent shelf.new)) }
+    ensures long { (file : List ℕ) (line : ℕ) → result ≡ Status.ScriptRefused Code.FileTooLong file line → IfNone (S.stock shelf.old) (Rose (S.absent shelf.old) (S.absent shelf.new)) }
     ensures write { result ≡ Status.WriteFault → Rose (P.faults press.old) (P.faults press.new) }
     ensures no_usage { (place : ℕ) → result ≡ Status.Usage place → ⊥ }
     ensures stays { S.stock shelf.new ≡ S.stock shelf.old }
@@ -82,6 +84,7 @@ fn run_named<S: Shelf, P: Press, L: Ledger>(
     ensures ends { (files : List File) → S.stock shelf.old ≡ Some files → EndsAs result (P.sent press.old) (run_text files name.now (fetched MAX_SCRIPT_BYTES (content files name.now))) (P.sent press.new) }
     ensures read { result ≡ Status.ReadFault → Rose (S.faults shelf.old) (S.faults shelf.new) }
     ensures absent { (file : List ℕ) (line : ℕ) → result ≡ Status.ScriptRefused Code.NoFile file line → IfNone (S.stock shelf.old) (Rose (S.absent shelf.old) (S.absent shelf.new)) }
+    ensures long { (file : List ℕ) (line : ℕ) → result ≡ Status.ScriptRefused Code.FileTooLong file line → 0 < line → IfNone (S.stock shelf.old) (Rose (S.absent shelf.old) (S.absent shelf.new)) }
     ensures write { result ≡ Status.WriteFault → Rose (P.faults press.old) (P.faults press.new) }
     ensures no_usage { (place : ℕ) → result ≡ Status.Usage place → ⊥ }
     ensures stays { S.stock shelf.new ≡ S.stock shelf.old }
@@ -112,6 +115,7 @@ fn run<S: Shelf, P: Press, L: Ledger>(
     ensures ends { (files : List File) → S.stock shelf.old ≡ Some files → EndsAs result (P.sent press.old) (serial files words.now) (P.sent press.new) }
     ensures read { result ≡ Status.ReadFault → Rose (S.faults shelf.old) (S.faults shelf.new) }
     ensures absent { (file : List ℕ) (line : ℕ) → result ≡ Status.ScriptRefused Code.NoFile file line → IfNone (S.stock shelf.old) (Rose (S.absent shelf.old) (S.absent shelf.new)) }
+    ensures long { (file : List ℕ) (line : ℕ) → result ≡ Status.ScriptRefused Code.FileTooLong file line → 0 < line → IfNone (S.stock shelf.old) (Rose (S.absent shelf.old) (S.absent shelf.new)) }
     ensures write { result ≡ Status.WriteFault → Rose (P.faults press.old) (P.faults press.new) }
     ensures usage { (place : ℕ) → (result ≡ Status.Usage place) ↔ (script_name words.now ≡ Err place) }
     ensures untouched { (place : ℕ) → script_name words.now ≡ Err place → (P.sent press.new ≡ P.sent press.old) × (P.faults press.new ≡ P.faults press.old) × (S.faults shelf.new ≡ S.faults shelf.old) × (S.absent shelf.new ≡ S.absent shelf.old) }
@@ -159,8 +163,10 @@ pub fn run_words<S: Shelf, P: Press, L: Ledger>(
     // Nothing is put where a file is not in a form that is built.
     ensures not_built { (files : List File) (file : List ℕ) (line : ℕ) → S.stock shelf.old ≡ Some files → result ≡ Status.NotBuilt file line → P.sent press.new ≡ P.sent press.old }
 
-    // Where the shelf does not tell its files, one is missing only by what the shelf answered.
+    // Where the shelf does not tell its files, one is missing, and a data file too long, only by what
+    // the shelf answered.
     ensures no_file { (file : List ℕ) (line : ℕ) → result ≡ Status.ScriptRefused Code.NoFile file line → IfNone (S.stock shelf.old) (Rose (S.absent shelf.old) (S.absent shelf.new)) }
+    ensures data_too_long { (file : List ℕ) (line : ℕ) → result ≡ Status.ScriptRefused Code.FileTooLong file line → 0 < line → IfNone (S.stock shelf.old) (Rose (S.absent shelf.old) (S.absent shelf.new)) }
 
     ensures stock_stays { S.stock shelf.new ≡ S.stock shelf.old }
     ensures read_kept { S.faults shelf.old ≤ S.faults shelf.new }

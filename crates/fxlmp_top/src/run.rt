@@ -74,6 +74,7 @@ pub(crate) fn run_data<P: Press, L: Ledger>(
     ensures no_usage { (place : ℕ) → result ≡ Status.Usage place → ⊥ }
     ensures no_read { result ≡ Status.ReadFault → ⊥ }
     ensures no_absence { (file : List ℕ) (line : ℕ) → result ≡ Status.ScriptRefused Code.NoFile file line → ⊥ }
+    ensures no_unbuilt { (file : List ℕ) (line : ℕ) → result ≡ Status.NotBuilt file line → ⊥ }
     ensures no_excess { (file : List ℕ) (line : ℕ) → result ≡ Status.ScriptRefused Code.FileTooLong file line → ⊥ }
 {
     match make_run(alloc, script, input, press, steps) {

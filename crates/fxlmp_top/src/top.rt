@@ -32,6 +32,7 @@ fn missed<P: Press>(alloc: Global, press: &mut P, miss: Miss, name: &Text, line:
     ensures absent { (file : List ℕ) (place : ℕ) → result ≡ Status.ScriptRefused Code.NoFile file place → miss ≡ Miss.Missing }
     ensures long { (file : List ℕ) (place : ℕ) → result ≡ Status.ScriptRefused Code.FileTooLong file place → (miss ≡ Miss.TooLong) × (place ≡ line) }
     ensures no_usage { (place : ℕ) → result ≡ Status.Usage place → ⊥ }
+    ensures no_unbuilt { (file : List ℕ) (place : ℕ) → result ≡ Status.NotBuilt file place → ⊥ }
 {
     match miss {
         Miss::Missing => refuse(alloc, press, Code::NoFile, name, line),
@@ -56,6 +57,7 @@ fn run_script<S: Shelf, P: Press, L: Ledger>(
     ensures absent { (file : List ℕ) (line : ℕ) → result ≡ Status.ScriptRefused Code.NoFile file line → IfNone (S.stock shelf.old) (Rose (S.absent shelf.old) (S.absent shelf.new)) }
     ensures long { (file : List ℕ) (line : ℕ) → result ≡ Status.ScriptRefused Code.FileTooLong file line → IfNone (S.stock shelf.old) (Rose (S.absent shelf.old) (S.absent shelf.new)) }
     ensures write { result ≡ Status.WriteFault → Rose (P.faults press.old) (P.faults press.new) }
+    ensures unbuilt { (file : List ℕ) (line : ℕ) → result ≡ Status.NotBuilt file line → P.sent press.new ≡ P.sent press.old }
     ensures no_usage { (place : ℕ) → result ≡ Status.Usage place → ⊥ }
     ensures stays { S.stock shelf.new ≡ S.stock shelf.old }
     ensures faults_kept { S.faults shelf.old ≤ S.faults shelf.new }
@@ -86,6 +88,7 @@ fn run_named<S: Shelf, P: Press, L: Ledger>(
     ensures absent { (file : List ℕ) (line : ℕ) → result ≡ Status.ScriptRefused Code.NoFile file line → IfNone (S.stock shelf.old) (Rose (S.absent shelf.old) (S.absent shelf.new)) }
     ensures long { (file : List ℕ) (line : ℕ) → result ≡ Status.ScriptRefused Code.FileTooLong file line → 0 < line → IfNone (S.stock shelf.old) (Rose (S.absent shelf.old) (S.absent shelf.new)) }
     ensures write { result ≡ Status.WriteFault → Rose (P.faults press.old) (P.faults press.new) }
+    ensures unbuilt { (file : List ℕ) (line : ℕ) → result ≡ Status.NotBuilt file line → P.sent press.new ≡ P.sent press.old }
     ensures no_usage { (place : ℕ) → result ≡ Status.Usage place → ⊥ }
     ensures stays { S.stock shelf.new ≡ S.stock shelf.old }
     ensures faults_kept { S.faults shelf.old ≤ S.faults shelf.new }
@@ -117,6 +120,7 @@ fn run<S: Shelf, P: Press, L: Ledger>(
     ensures absent { (file : List ℕ) (line : ℕ) → result ≡ Status.ScriptRefused Code.NoFile file line → IfNone (S.stock shelf.old) (Rose (S.absent shelf.old) (S.absent shelf.new)) }
     ensures long { (file : List ℕ) (line : ℕ) → result ≡ Status.ScriptRefused Code.FileTooLong file line → 0 < line → IfNone (S.stock shelf.old) (Rose (S.absent shelf.old) (S.absent shelf.new)) }
     ensures write { result ≡ Status.WriteFault → Rose (P.faults press.old) (P.faults press.new) }
+    ensures unbuilt { (file : List ℕ) (line : ℕ) → result ≡ Status.NotBuilt file line → P.sent press.new ≡ P.sent press.old }
     ensures usage { (place : ℕ) → (result ≡ Status.Usage place) ↔ (script_name words.now ≡ Err place) }
     ensures untouched { (place : ℕ) → script_name words.now ≡ Err place → (P.sent press.new ≡ P.sent press.old) × (P.faults press.new ≡ P.faults press.old) × (S.faults shelf.new ≡ S.faults shelf.old) × (S.absent shelf.new ≡ S.absent shelf.old) }
     ensures stays { S.stock shelf.new ≡ S.stock shelf.old }
@@ -161,7 +165,7 @@ pub fn run_words<S: Shelf, P: Press, L: Ledger>(
     ensures usage_untouched { (place : ℕ) → script_name words.now ≡ Err place → (P.sent press.new ≡ P.sent press.old) × (P.faults press.new ≡ P.faults press.old) × (S.faults shelf.new ≡ S.faults shelf.old) × (S.absent shelf.new ≡ S.absent shelf.old) }
 
     // Nothing is put where a file is not in a form that is built.
-    ensures not_built { (files : List File) (file : List ℕ) (line : ℕ) → S.stock shelf.old ≡ Some files → result ≡ Status.NotBuilt file line → P.sent press.new ≡ P.sent press.old }
+    ensures not_built { (file : List ℕ) (line : ℕ) → result ≡ Status.NotBuilt file line → P.sent press.new ≡ P.sent press.old }
 
     // Where the shelf does not tell its files, one is missing, and a data file too long, only by what
     // the shelf answered.

@@ -6,6 +6,7 @@
 #![tactic(auto)]
 
 mod decimal;
+mod faults;
 mod memory;
 mod numbers;
 mod print;
@@ -15,6 +16,7 @@ mod steps;
 mod text;
 
 pub use decimal::{MAX_UNITS, NumError, decimal_text_form, read_decimal, read_whole};
+pub use faults::{FormulaFault, VarFault};
 pub use memory::NoMemory;
 pub use numbers::{Number, Numbers};
 pub use print::{print_fix, print_whole, printed_reads_back};
@@ -25,6 +27,9 @@ pub use text::Text;
 
 /// A vector in units, by axis: x, y, z.
 pub type V3 = [i64; 3];
+
+/// Texts in order: the words of a line, the values of a variable.
+pub type Words = Seq<Text>;
 
 /// One unit is 2^-24, so this many units are 1.
 pub const UNIT: i64 = 1 << 24;

@@ -1,6 +1,8 @@
 pub mod DecimalLemmas
 pub mod PrintLemmas
+pub mod RootLemmas
 pub mod RoundTrip
 pub mod RoundingLemmas
+mod ValueLemmas
 mod Worked
 mod WorkedPrint

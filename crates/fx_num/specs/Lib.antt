@@ -1,4 +1,5 @@
 pub mod Decimal
 pub mod Numbers
 pub mod Print
+pub mod Roots
 pub mod Rounding

@@ -10,6 +10,7 @@ mod faults;
 mod memory;
 mod numbers;
 mod print;
+mod roots;
 mod rounding;
 mod seq;
 mod steps;
@@ -19,7 +20,8 @@ pub use decimal::{MAX_UNITS, NumError, decimal_text_form, read_decimal, read_who
 pub use faults::{FormulaFault, VarFault};
 pub use memory::NoMemory;
 pub use numbers::{Number, Numbers};
-pub use print::{print_fix, print_whole, printed_reads_back};
+pub use print::{print_fix, print_scaled, print_value, print_whole, printed_reads_back};
+pub use roots::{rcbrt, roots_are_the_nearest, rsqrt};
 pub use rounding::{nearest, nearest_shift, rdiv, rounding_is_odd, rounding_is_the_nearest, rsh};
 pub use seq::Seq;
 pub use steps::Steps;

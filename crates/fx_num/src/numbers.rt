@@ -68,21 +68,3 @@ impl Numbers {
         &self.items
     }
 }
-
-#[cfg(test)]
-mod tests {
-    use super::*;
-
-    #[test]
-    fn finds_the_first_number_with_a_keyword(rt: HostRuntime) -> Result<(), NoMemory> {
-        let mut numbers = Numbers::new(rt.alloc());
-        numbers.push(Text::from_bytes(rt.alloc(), b"temp")?, 24159191)?;
-        numbers.push(Text::from_bytes(rt.alloc(), b"step")?, -7)?;
-        numbers.push(Text::from_bytes(rt.alloc(), b"temp")?, 1)?;
-        assert_eq!(rt; numbers.value_of(b"temp"), Some(24159191));
-        assert_eq!(rt; numbers.value_of(b"step"), Some(-7));
-        assert_eq!(rt; numbers.value_of(b"tem"), None);
-        assert_eq!(rt; numbers.as_slice().len(), 3);
-        Ok(())
-    }
-}

@@ -1,11 +1,11 @@
 //! The texts that numbers are printed as.
-ghost use Rattle.std.specs.Prelude.{◌≡◌, ◌*◌, ◌^◌, ◌<◌, ◌≤◌, [], ◌++◌, ℤ, length, unsigned_abs, decimal, IsAscii, Ok};
+ghost use Rattle.std.specs.Prelude.{◌≡◌, ◌*◌, ◌^◌, ◌<◌, ◌≤◌, [], ◌++◌, ◌≤ℤ◌, ℤ, pos, length, take, unsigned_abs, decimal, IsAscii, Ok};
 ghost use Rattle.arrayvec.specs.ArrayString.{array_string_len};
 ghost use Rattle.fx_num.specs.Rounding.{nearest_of};
 ghost use Rattle.fx_num.specs.Decimal.{read_number};
-ghost use Rattle.fx_num.specs.Print.{sign_text, eight_digits, eight_decimals, fix_text};
+ghost use Rattle.fx_num.specs.Print.{sign_text, eight_digits, eight_decimals, fix_text, without_last, value_text, scaled_text};
 
-use crate::rounding::nearest_shift;
+use crate::rounding::{nearest, nearest_shift};
 use arrayvec::ArrayString;
 use itoa::Buffer;
 
@@ -36,6 +36,33 @@ pub fn print_whole(n: u64, out: &mut ArrayString<64>)
     out.push_str(buffer.format(n));
 }
 
+/// Prints a number in units as a formula's value: as [`print_fix`] does, without zeros at the end and
+/// without a point at the end. It takes no memory.
+pub fn print_value(v: i64, out: &mut ArrayString<64>)
+    requires { out.old.bytes ≡ [] }
+    ensures text { out.new.bytes ≡ value_text v }
+    ensures short { length (value_text v) ≤ 33 }
+    ensures ascii { IsAscii (value_text v) }
+{
+    print_fix(i128::from(v), out);
+    drop_last(b'0', out);
+    drop_last(b'.', out);
+}
+
+/// Prints the quotient of two whole numbers with eight decimals, the last rounded, a tie away from
+/// zero. It takes no memory.
+pub fn print_scaled(num: i128, den: i128, out: &mut ArrayString<64>)
+    requires empty { out.old.bytes ≡ [] }
+    requires sign { pos 0 ≤ℤ num }
+    requires part { num ≤ℤ den }
+    requires positive { pos 1 ≤ℤ den }
+    requires magnitude { den ≤ℤ pos (2 ^ 90) }
+    ensures { out.new.bytes ≡ scaled_text (unsigned_abs num) (unsigned_abs den) }
+{
+    let hundred_millionths = nearest(num.unsigned_abs() * DECIMALS, den.unsigned_abs());
+    push_decimals(hundred_millionths, out);
+}
+
 /// A printed number reads back as itself where its magnitude is one that can be read, so no two
 /// of them print alike.
 pub fn printed_reads_back()
@@ -48,6 +75,29 @@ fn rounded_decimals(magnitude: u128) -> u128
     ensures { result ≡ nearest_of (magnitude * 10 ^ 8) (2 ^ 24) }
 {
     nearest_shift(magnitude * DECIMALS, 24)
+}
+
+/// Drops the bytes `last` at the end of an ASCII text.
+fn drop_last(last: u8, out: &mut ArrayString<64>)
+    requires { IsAscii out.old.bytes }
+    ensures text { out.new.bytes ≡ without_last last out.old.bytes }
+    ensures short { array_string_len out.new ≤ array_string_len out.old }
+    ensures ascii { IsAscii out.new.bytes }
+{
+    let kept = kept_len(last, out.as_str().as_bytes());
+    out.truncate(kept);
+}
+
+/// How long a text is without the bytes `last` at its end.
+fn kept_len(last: u8, text: &[u8]) -> usize
+    ensures bound { result ≤ length text.now }
+    ensures rest { take result text.now ≡ without_last last text.now }
+{
+    let mut kept = text.len();
+    while kept > 0 && text[kept - 1] == last {
+        kept -= 1;
+    }
+    kept
 }
 
 /// Appends a `-` where the number is negative.
@@ -80,54 +130,4 @@ fn push_eight_digits(n: u128, out: &mut ArrayString<64>)
 {
     let mut buffer = Buffer::new();
     out.push_str(&buffer.format(DECIMALS + n)[1..]);
-}
-
-#[cfg(test)]
-mod tests {
-    use super::*;
-
-    const LARGEST: u128 = 1 << 98;
-
-    #[test]
-    fn fixed_numbers(rt: HostRuntime) {
-        let table = [
-            (3i128, "0.00000018"),
-            (16_777_215, "0.99999994"),
-            (-8_388_608, "-0.50000000"),
-            // exactly half of the last decimal, away from zero
-            (32_768, "0.00195313"),
-            (-32_768, "-0.00195313"),
-            (98_304, "0.00585938"),
-            (-167_772_161, "-10.00000006"),
-            (4_611_686_018_427_387_904, "274877906944.00000000"),
-            (
-                316_912_650_057_057_350_374_175_801_344,
-                "18889465931478580854784.00000000",
-            ),
-            (
-                -316_912_650_057_057_350_374_175_801_344,
-                "-18889465931478580854784.00000000",
-            ),
-        ];
-        for (v, want) in table {
-            let magnitude = v.unsigned_abs();
-            assert!(rt; magnitude <= LARGEST);
-            let mut out = ArrayString::new();
-            print_fix(v, &mut out);
-            assert_eq!(rt; out.as_str(), want);
-        }
-    }
-
-    #[test]
-    fn whole_numbers(rt: HostRuntime) {
-        for (n, want) in [
-            (0, "0"),
-            (1_000, "1000"),
-            (u64::MAX, "18446744073709551615"),
-        ] {
-            let mut out = ArrayString::new();
-            print_whole(n, &mut out);
-            assert_eq!(rt; out.as_str(), want);
-        }
-    }
 }

@@ -77,31 +77,3 @@ impl<T: Drop> Seq<T> {
         Ok(())
     }
 }
-
-#[cfg(test)]
-mod tests {
-    use super::*;
-    use crate::text::Text;
-
-    #[test]
-    fn lists_and_texts_grow_and_copy(rt: HostRuntime) -> Result<(), NoMemory> {
-        let mut list = Seq::new(rt.alloc());
-        assert!(rt; list.is_empty());
-        for item in [3u32, 1, 4] {
-            list.push(item)?;
-        }
-        assert_eq!(rt; list.len(), 3);
-        assert_eq!(rt; list.as_slice(), [3, 1, 4].as_slice());
-        let list = Seq::from_vec(list.into_vec());
-        assert_eq!(rt; list.as_slice(), [3, 1, 4].as_slice());
-
-        let mut text = Text::new(rt.alloc());
-        text.push(b"run ")?;
-        text.push(b"0")?;
-        let copy = text.copy(rt.alloc())?;
-        assert_eq!(rt; copy.as_bytes(), b"run 0".as_slice());
-        assert!(rt; copy.same(&text));
-        assert!(rt; !copy.same(&Text::from_bytes(rt.alloc(), b"run 1")?));
-        Ok(())
-    }
-}

@@ -1,3 +1,6 @@
+pub mod Arithmetic
 pub mod Numbers
+pub mod Operands
 pub mod Reading
+pub mod Value
 pub mod Words

@@ -3,11 +3,17 @@
 //! Values are whole numbers of units, multiples of 2^-24, of magnitude at most [`MAX_UNITS`](fx_num::MAX_UNITS).
 #![tactic(auto)]
 
+mod arithmetic;
+mod named;
 mod numbers;
 mod reading;
 mod stack;
 mod state;
 mod tree;
+mod value;
 mod words;
 
+pub use named::{NamedOperand, Operands, operands};
+pub use reading::parse;
 pub use tree::{Expr, Function, Operator, Sign};
+pub use value::{EvalFault, eval};

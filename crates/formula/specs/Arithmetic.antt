@@ -9,6 +9,7 @@ use Rattle.formula.specs.declared.tree.Sign.{Sign}
 use Rattle.formula.specs.declared.tree.Sign.TheVariants.{Minus, Not}
 use Rattle.formula.specs.declared.tree.Function.{Function}
 use Rattle.formula.specs.declared.tree.Function.TheVariants.{Sqrt, Abs, Floor, Ceil, Round}
+use Rattle.formula.specs.declared.arithmetic.TheConstants.{MAX_EXPONENT}
 use Rattle.formula.specs.declared.arithmetic.Failure.{Failure}
 use Rattle.formula.specs.declared.arithmetic.Failure.TheVariants.{DivideByZero, OutOfRange}
 
@@ -52,9 +53,9 @@ abbrev pub power_of : ℤ → ℕ → Result ℤ Failure
 power_of a zero = Ok (pos (2 ^ 24))
 power_of a (suc n) = times (power_of a n) a
 
--- the exponent is a whole number from 0 to 64
+-- the exponent is a whole number from 0 to MAX_EXPONENT
 abbrev pub powered : ℤ → ℤ → Result ℤ Failure
-powered a (pos n) = cond ((n % 2 ^ 24 == 0) && nat_le (n / 2 ^ 24) 64) (power_of a (n / 2 ^ 24)) (Err OutOfRange)
+powered a (pos n) = cond ((n % 2 ^ 24 == 0) && nat_le (n / 2 ^ 24) MAX_EXPONENT) (power_of a (n / 2 ^ 24)) (Err OutOfRange)
 powered a (negsuc n) = Err OutOfRange
 
 -- an operator between two values

@@ -1,4 +1,5 @@
 pub mod Arithmetic
+pub mod Fronts
 pub mod Numbers
 pub mod Operands
 pub mod Reading

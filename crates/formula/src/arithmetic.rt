@@ -16,7 +16,10 @@ pub enum Failure {
 }
 
 /// The greatest exponent.
-const MAX_EXPONENT: i64 = 64;
+pub const MAX_EXPONENT: u64 = 64;
+
+/// 1 in units, as a magnitude.
+const ONE: u64 = 1 << 24;
 
 /// A result where it is in range.
 pub fn limited(v: i128) -> Result<i64, Failure>
@@ -129,10 +132,10 @@ fn powered(a: i64, exponent: i64) -> Result<i64, Failure>
         return Err(Failure::OutOfRange);
     }
     let units = exponent.unsigned_abs();
-    if units % (1 << 24) != 0 || units / (1 << 24) > 64 {
+    if units % ONE != 0 || units / ONE > MAX_EXPONENT {
         return Err(Failure::OutOfRange);
     }
-    power_of(a, units / (1 << 24))
+    power_of(a, units / ONE)
 }
 
 /// An operator between two values.
@@ -178,7 +181,7 @@ fn whole_below(magnitude: u64) -> u64
     ensures is { result ≡ magnitude / 2 ^ 24 * 2 ^ 24 }
     ensures bound { result ≤ 2 ^ 62 }
 {
-    magnitude / (1 << 24) * (1 << 24)
+    magnitude / ONE * ONE
 }
 
 /// The least whole number that is above a magnitude.
@@ -187,7 +190,7 @@ fn whole_above(magnitude: u64) -> u64
     ensures is { result ≡ (magnitude / 2 ^ 24 + 1) * 2 ^ 24 }
     ensures bound { result ≤ 2 ^ 62 }
 {
-    (magnitude / (1 << 24) + 1) * (1 << 24)
+    (magnitude / ONE + 1) * ONE
 }
 
 /// The greatest whole number that is not above.

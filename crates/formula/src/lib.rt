@@ -4,6 +4,7 @@
 #![tactic(auto)]
 
 mod arithmetic;
+mod laws;
 mod named;
 mod numbers;
 mod reading;
@@ -13,6 +14,7 @@ mod tree;
 mod value;
 mod words;
 
+pub use laws::refused_at_the_first_wrong_byte;
 pub use named::{NamedOperand, Operands, operands};
 pub use reading::parse;
 pub use tree::{Expr, Function, Operator, Sign};

@@ -444,7 +444,7 @@ pub fn parse(alloc: Global, text: &[u8]) -> Result<Expr, FormulaFault>
 
 /// Reads a text that is not too long.
 fn read(alloc: Global, text: &[u8]) -> Result<Expr, FormulaFault>
-    requires { length text.now ≤ 4096 }
+    requires { length text.now ≤ MAX_FORMULA_BYTES }
     ensures tree { IfOk result (λ tree. run 0 text.now (State.Needs []) ≡ Ok tree) }
     ensures syntax { IfErr result (λ fault. IsSyntaxFault (run 0 text.now (State.Needs [])) fault) }
 {

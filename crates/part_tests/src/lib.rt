@@ -4,3 +4,7 @@
 
 #[cfg(test)]
 mod numbers;
+#[cfg(test)]
+mod pair_terms;
+#[cfg(test)]
+mod quotients;

@@ -1,4 +1,5 @@
 pub mod DecimalLemmas
+pub mod GuessLemmas
 pub mod PrintLemmas
 pub mod RootLemmas
 pub mod RoundTrip

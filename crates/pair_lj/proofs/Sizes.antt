@@ -1,5 +1,5 @@
 -- Bounds of the rounded products of the pair term.
-use Rattle.std.proofs.Common.{◌*◌, ◌^◌, ◌≤◌, ℕ, arith}
+use Rattle.std.proofs.Common.{◌*◌, ◌^◌, ◌<◌, ◌≤◌, ℕ, arith}
 use Rattle.std.proofs.lemmas.Nat.{mul-le}
 use Rattle.fx_num.specs.Rounding.{nearest_of}
 use Rattle.fx_num.proofs.RoundingLemmas.{nearest_of-le}
@@ -22,3 +22,8 @@ energy_small e g weak low =
 
 pub weighted_small : (s q : ℕ) → q ≤ 2 ^ 24 → nearest_of (s * q) (2 ^ 24) ≤ s
 weighted_small s q low = nearest_of-le (s * q) (2 ^ 24) s (omega arith) (mul-le s q s (2 ^ 24) (omega arith) low)
+
+pub product_small : (s a : ℕ) → s < 2 ^ 52 → a < 2 ^ 28 → nearest_of (s * a) (2 ^ 32) ≤ 2 ^ 48
+product_small s a few short =
+    let two : s * a ≤ 2 ^ 52 * 2 ^ 28 = mul-le s a (2 ^ 52) (2 ^ 28) (omega arith) (omega arith) in
+    nearest_of-le (s * a) (2 ^ 32) (2 ^ 48) (omega arith) (omega arith)

@@ -1,22 +1,19 @@
-//! The pair term at a displacement.
-ghost use Rattle.std.specs.Prelude.{◌≡◌, ◌+◌, ◌*◌, ◌^◌, ◌<◌, ◌≤◌, ◌⊎◌, [], ◌∷◌, pos, ◌-ℤ◌, ◌*ℤ◌, unsigned_abs, IfOk, IfSome, MatchBool};
-ghost use Rattle.fx_num.specs.Rounding.{nearest_of, div_rounded, shr_rounded, with_sign};
-ghost use Rattle.pair_lj.specs.PairTerm.{pair_term, force_along, dot, HasModerateForce, HasModerateEnergy, HasModerateVirial, IsDisplacement, IsModerate};
+//! The pair term at a displacement, in two halves: a guess of its quotients, and the term with the guess checked.
+ghost use Rattle.std.specs.Prelude.{◌≡◌, ◌+◌, ◌*◌, ◌^◌, ◌<◌, ◌≤◌, ℕ, [], ◌∷◌, pos, unsigned_abs, Ok, None, IfOk, IfSome, IfNone};
+ghost use Rattle.box_geo.specs.Sides.{length2};
+ghost use Rattle.pair_lj.specs.PairTerm.{pair_term, HasModerateForce, HasModerateEnergy, HasModerateVirial, IsDisplacement};
 
 use crate::close::Close;
 use crate::coefficients::Coefficients;
-use crate::magnitudes::{
-    cube, distance2, energy_size, square, square_of_sixth, square_ratio, strength_size, weighted,
-};
-use crate::signs::{difference, product, product_size, signed, work};
+use crate::guess::Guess;
+use crate::plain::plain_term;
+use crate::quick::quick_term;
 use box_geo::Term;
-use box_geo::limits::MAX_TERM_FORCE;
+use box_geo::limits::{FULL_WEIGHT, MAX_CUTOFF};
 use fx_num::V3;
 
-/// The greatest square of sigma over the distance, 16 in units of 2^-32.
-const MAX_SQUARE_RATIO: u128 = 1 << 36;
-
 /// The term of atoms i and j at the displacement d from j to i, with a special weight in units.
+#[inline(always)]
 pub(crate) fn evaluate(k: Coefficients, d: V3, weight: u64) -> Result<Option<Term>, Close>
     requires d { IsDisplacement d }
     requires weight { weight ≤ 2 ^ 24 }
@@ -25,11 +22,59 @@ pub(crate) fn evaluate(k: Coefficients, d: V3, weight: u64) -> Result<Option<Ter
     ensures energy { IfOk result (λ o. IfSome o HasModerateEnergy) }
     ensures virial { IfOk result (λ o. IfSome o HasModerateVirial) }
 {
-    evaluate_at(k, d[0], d[1], d[2], weight)
+    match guess_for(k, d) {
+        Some(guess) => evaluate_with(k, d, weight, guess),
+        None => Ok(None),
+    }
 }
 
-/// The term at the displacement (x, y, z).
-fn evaluate_at(k: Coefficients, x: i64, y: i64, z: i64, weight: u64) -> Result<Option<Term>, Close>
+/// A guess for the term: `None` at the cutoff and beyond, where there is no term.
+#[inline(always)]
+pub(crate) fn guess_for(k: Coefficients, d: V3) -> Option<Guess>
+    requires d { IsDisplacement d }
+    ensures near { IfSome result (λ g. length2 d < k.cutoff * k.cutoff) }
+    ensures far { IfNone result (k.cutoff * k.cutoff ≤ length2 d) }
+    ensures none { IfNone result ((weight : ℕ) → Ok None ≡ pair_term k.epsilon k.sigma k.cutoff (pos 0) weight d) }
+{
+    match near_distance2(
+        k,
+        d[0].unsigned_abs(),
+        d[1].unsigned_abs(),
+        d[2].unsigned_abs(),
+    ) {
+        Some(r2) => Some(Guess::new(k, r2)),
+        None => None,
+    }
+}
+
+/// The term, whatever was guessed.
+#[inline(always)]
+pub(crate) fn evaluate_with(
+    k: Coefficients,
+    d: V3,
+    weight: u64,
+    guess: Guess,
+) -> Result<Option<Term>, Close>
+    requires d { IsDisplacement d }
+    requires weight { weight ≤ 2 ^ 24 }
+    ensures is { result ≡ pair_term k.epsilon k.sigma k.cutoff (pos 0) weight d }
+    ensures bounded { IfOk result (λ o. IfSome o HasModerateForce) }
+    ensures energy { IfOk result (λ o. IfSome o HasModerateEnergy) }
+    ensures virial { IfOk result (λ o. IfSome o HasModerateVirial) }
+{
+    evaluate_at(k, d[0], d[1], d[2], weight, guess)
+}
+
+/// The term at the displacement (x, y, z), whatever was guessed.
+#[inline(always)]
+fn evaluate_at(
+    k: Coefficients,
+    x: i64,
+    y: i64,
+    z: i64,
+    weight: u64,
+    guess: Guess,
+) -> Result<Option<Term>, Close>
     requires x { unsigned_abs x < 2 ^ 34 }
     requires y { unsigned_abs y < 2 ^ 34 }
     requires z { unsigned_abs z < 2 ^ 34 }
@@ -39,96 +84,42 @@ fn evaluate_at(k: Coefficients, x: i64, y: i64, z: i64, weight: u64) -> Result<O
     ensures energy { IfOk result (λ o. IfSome o HasModerateEnergy) }
     ensures virial { IfOk result (λ o. IfSome o HasModerateVirial) }
 {
-    let (a, b, c) = (x.unsigned_abs(), y.unsigned_abs(), z.unsigned_abs());
-    let r2 = distance2(a, b, c);
-    if square(k.cutoff) <= r2 {
+    let Some(r2) = near_distance2(k, x.unsigned_abs(), y.unsigned_abs(), z.unsigned_abs()) else {
         return Ok(None);
+    };
+    if weight == FULL_WEIGHT as u64 {
+        if let Some(term) = quick_term(k, x, y, z, r2, guess) {
+            return Ok(Some(term));
+        }
     }
-    if r2 == 0 {
-        return Err(Close);
-    }
-    let w = square_ratio(k.sigma, r2);
-    if w > MAX_SQUARE_RATIO {
-        return Err(Close);
-    }
-    let s6 = cube(w);
-    let s12 = square_of_sixth(s6);
-    let (negative, size) = strength(k.epsilon, s6, s12, r2);
-    if is_too_strong(size, a, b, c) {
-        return Err(Close);
-    }
-    let energy = energy(k.epsilon, s6, s12, weight);
-    Ok(Some(term(negative, weighted(size, weight), energy, x, y, z)))
+    plain_term(k, x, y, z, weight, guess)
 }
 
-/// The force over the displacement, by its sign and its magnitude.
-fn strength(epsilon: u64, s6: u128, s12: u128, r2: u128) -> (bool, u128)
-    requires epsilon { epsilon ≤ 2 ^ 32 }
-    requires s6 { s6 ≤ 2 ^ 44 }
-    requires s12 { s12 ≤ 2 ^ 56 }
-    requires apart { 0 < r2 }
-    requires near { r2 ≤ 2 ^ 56 }
-    ensures is { with_sign result.0 result.1 ≡ div_rounded (pos (24 * epsilon) *ℤ (pos (2 * s12) -ℤ pos s6) *ℤ pos (2 ^ 24)) (pos r2) }
-    ensures bound { result.1 * r2 ≤ 2 ^ 120 }
+/// The square of the distance, from the magnitudes of the components, where it is below that of the cutoff.
+#[tactic(auto, using(crate::proofs::QuickLemmas::far_along))]
+#[inline(always)]
+fn near_distance2(k: Coefficients, a: u64, b: u64, c: u64) -> Option<u64>
+    ensures far { IfNone result (k.cutoff * k.cutoff ≤ a * a + b * b + c * c) }
+    ensures is { IfSome result (λ r2. r2 ≡ a * a + b * b + c * c) }
+    ensures near { IfSome result (λ r2. r2 < k.cutoff * k.cutoff) }
+    ensures a { IfSome result (λ r2. a < 2 ^ 28) }
+    ensures b { IfSome result (λ r2. b < 2 ^ 28) }
+    ensures c { IfSome result (λ r2. c < 2 ^ 28) }
 {
-    let (negative, gap) = difference(2 * s12, s6);
-    (negative, strength_size(epsilon, gap, r2))
-}
-
-/// The energy with its weight.
-fn energy(epsilon: u64, s6: u128, s12: u128, weight: u64) -> i64
-    requires epsilon { epsilon ≤ 2 ^ 32 }
-    requires s6 { s6 ≤ 2 ^ 44 }
-    requires s12 { s12 ≤ 2 ^ 56 }
-    requires weight { weight ≤ 2 ^ 24 }
-    ensures is { result ≡ shr_rounded (shr_rounded (pos (4 * epsilon) *ℤ (pos s12 -ℤ pos s6)) 32 *ℤ pos weight) 24 }
-    ensures bound { unsigned_abs result ≤ 2 ^ 59 }
-{
-    let (negative, gap) = difference(s12, s6);
-    signed(negative, weighted(energy_size(epsilon, gap), weight))
-}
-
-/// Whether a component of the force is of too great a magnitude, by those of the displacement.
-fn is_too_strong(size: u128, a: u64, b: u64, c: u64) -> bool
-    requires a { size * a < 2 ^ 126 }
-    requires b { size * b < 2 ^ 126 }
-    requires c { size * c < 2 ^ 126 }
-    ensures { MatchBool result
-        ((2 ^ 42 < nearest_of (size * a) (2 ^ 32))
-        ⊎ ((2 ^ 42 < nearest_of (size * b) (2 ^ 32)) ⊎ (2 ^ 42 < nearest_of (size * c) (2 ^ 32))))
-        ((nearest_of (size * a) (2 ^ 32) ≤ 2 ^ 42)
-        × (nearest_of (size * b) (2 ^ 32) ≤ 2 ^ 42)
-        × (nearest_of (size * c) (2 ^ 32) ≤ 2 ^ 42)) }
-{
-    let limit = MAX_TERM_FORCE as u128;
-    product_size(size, a) > limit || product_size(size, b) > limit || product_size(size, c) > limit
-}
-
-/// The term of a strength, its weight included, and an energy.
-fn term(negative: bool, size: u128, energy: i64, x: i64, y: i64, z: i64) -> Term
-    requires fits_x { size * unsigned_abs x < 2 ^ 126 }
-    requires fits_y { size * unsigned_abs y < 2 ^ 126 }
-    requires fits_z { size * unsigned_abs z < 2 ^ 126 }
-    requires small_x { nearest_of (size * unsigned_abs x) (2 ^ 32) ≤ 2 ^ 42 }
-    requires small_y { nearest_of (size * unsigned_abs y) (2 ^ 32) ≤ 2 ^ 42 }
-    requires small_z { nearest_of (size * unsigned_abs z) (2 ^ 32) ≤ 2 ^ 42 }
-    requires x { unsigned_abs x < 2 ^ 28 }
-    requires y { unsigned_abs y < 2 ^ 28 }
-    requires z { unsigned_abs z < 2 ^ 28 }
-    ensures force { result.f ≡ force_along (with_sign negative size) (x ∷ y ∷ z ∷ []) }
-    ensures energy { result.energy ≡ energy }
-    ensures virial { result.virial ≡ dot (x ∷ y ∷ z ∷ []) result.f }
-    ensures bounded { IsModerate result.f }
-    ensures bound { unsigned_abs result.virial ≤ 3 * 2 ^ 70 }
-{
-    let (f, g, h) = (
-        product(negative, size, x),
-        product(negative, size, y),
-        product(negative, size, z),
-    );
-    Term {
-        f: [f, g, h],
-        energy,
-        virial: work(x, y, z, f, g, h),
+    let most = MAX_CUTOFF as u64;
+    if a >= most || b >= most || c >= most {
+        return None;
     }
+    let r2 = square(a) + square(b) + square(c);
+    if r2 < k.cutoff2 { Some(r2) } else { None }
+}
+
+/// The square of a component within the greatest cutoff.
+#[inline(always)]
+fn square(a: u64) -> u64
+    requires { a < 2 ^ 28 }
+    ensures is { result ≡ a * a }
+    ensures bound { result < 2 ^ 56 }
+{
+    a * a
 }

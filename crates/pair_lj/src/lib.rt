@@ -4,16 +4,19 @@
 mod close;
 mod coefficients;
 mod evaluate;
+mod force;
+mod guess;
 mod laws;
 mod magnitudes;
+mod plain;
+mod quick;
 mod signs;
 mod table;
-#[cfg(test)]
-mod tests;
 mod unset;
 
 pub use close::Close;
 pub use coefficients::Coefficients;
+pub use guess::Guess;
 pub use laws::{
     a_whole_weight_changes_nothing, pair_term_is_odd, pair_terms_are_bounded, pairs_have_no_order,
 };

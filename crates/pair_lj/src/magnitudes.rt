@@ -2,7 +2,7 @@
 ghost use Rattle.std.specs.Prelude.{◌≡◌, ◌+◌, ◌*◌, ◌^◌, ◌<◌, ◌≤◌};
 ghost use Rattle.fx_num.specs.Rounding.{nearest_of};
 
-use fx_num::{nearest, nearest_shift};
+use fx_num::{nearest_by_guess, nearest_shift};
 
 /// How many units are 1.
 const UNIT: u128 = fx_num::UNIT as u128;
@@ -27,17 +27,28 @@ pub(crate) fn distance2(a: u64, b: u64, c: u64) -> u128
 }
 
 /// The square of sigma over that of the distance, in units of 2^-32.
-pub(crate) fn square_ratio(sigma: u64, r2: u128) -> u128
+pub(crate) fn square_ratio(sigma: u64, r2: u128, guess: u64) -> u128
     requires sigma { sigma ≤ 2 ^ 27 }
     requires apart { 0 < r2 }
     requires near { r2 ≤ 2 ^ 56 }
     ensures { result ≡ nearest_of (sigma * sigma * 2 ^ 32) r2 }
 {
-    nearest(square(sigma) * (1 << 32), r2)
+    nearest_by_guess(square(sigma) * (1 << 32), r2 as u64, guess)
 }
 
 /// The sixth power of sigma over the distance, from the square, in units of 2^-32.
-pub(crate) fn cube(w: u128) -> u128
+#[inline(always)]
+pub(crate) fn cube(w: u64) -> u64
+    requires { w ≤ 2 ^ 36 }
+    ensures is { result ≡ nearest_of (w * w * w) (2 ^ 64) }
+    ensures bound { result ≤ 2 ^ 44 }
+{
+    wide_cube(w as u128) as u64
+}
+
+/// The same in 128 bits.
+#[inline(always)]
+fn wide_cube(w: u128) -> u128
     requires { w ≤ 2 ^ 36 }
     ensures is { result ≡ nearest_of (w * w * w) (2 ^ 64) }
     ensures bound { result ≤ 2 ^ 44 }
@@ -46,7 +57,18 @@ pub(crate) fn cube(w: u128) -> u128
 }
 
 /// The twelfth power of sigma over the distance, from the sixth, in units of 2^-32.
-pub(crate) fn square_of_sixth(s: u128) -> u128
+#[inline(always)]
+pub(crate) fn square_of_sixth(s: u64) -> u64
+    requires { s ≤ 2 ^ 44 }
+    ensures is { result ≡ nearest_of (s * s) (2 ^ 32) }
+    ensures bound { result ≤ 2 ^ 56 }
+{
+    wide_square_of_sixth(s as u128) as u64
+}
+
+/// The same in 128 bits.
+#[inline(always)]
+fn wide_square_of_sixth(s: u128) -> u128
     requires { s ≤ 2 ^ 44 }
     ensures is { result ≡ nearest_of (s * s) (2 ^ 32) }
     ensures bound { result ≤ 2 ^ 56 }
@@ -55,7 +77,7 @@ pub(crate) fn square_of_sixth(s: u128) -> u128
 }
 
 /// The force over the displacement, for a gap between the powers.
-pub(crate) fn strength_size(epsilon: u64, gap: u128, r2: u128) -> u128
+pub(crate) fn strength_size(epsilon: u64, gap: u64, r2: u128, guess: u64) -> u128
     requires epsilon { epsilon ≤ 2 ^ 32 }
     requires gap { gap ≤ 2 ^ 58 }
     requires apart { 0 < r2 }
@@ -63,17 +85,18 @@ pub(crate) fn strength_size(epsilon: u64, gap: u128, r2: u128) -> u128
     ensures is { result ≡ nearest_of (24 * epsilon * gap * 2 ^ 24) r2 }
     ensures bound { result * r2 ≤ 2 ^ 120 }
 {
-    nearest(24 * u128::from(epsilon) * gap * UNIT, r2)
+    nearest_by_guess(24 * epsilon as u128 * gap as u128 * UNIT, r2 as u64, guess)
 }
 
 /// The energy, for a gap between the powers.
-pub(crate) fn energy_size(epsilon: u64, gap: u128) -> u128
+#[inline(always)]
+pub(crate) fn energy_size(epsilon: u64, gap: u64) -> u128
     requires epsilon { epsilon ≤ 2 ^ 32 }
     requires gap { gap ≤ 2 ^ 57 }
     ensures is { result ≡ nearest_of (4 * epsilon * gap) (2 ^ 32) }
     ensures bound { result ≤ 2 ^ 59 }
 {
-    nearest_shift(4 * u128::from(epsilon) * gap, 32)
+    nearest_shift((4 * epsilon) as u128 * gap as u128, 32)
 }
 
 /// The part of a magnitude that a special weight leaves.

@@ -5,6 +5,7 @@ ghost use Rattle.fx_num.specs.Rounding.{nearest_of, shr_rounded, with_sign};
 use fx_num::nearest_shift;
 
 /// The number of this magnitude, negative where asked.
+#[inline(always)]
 pub(crate) fn signed(negative: bool, size: u128) -> i64
     requires { size < 2 ^ 63 }
     ensures is { result ≡ with_sign negative size }
@@ -18,7 +19,8 @@ pub(crate) fn signed(negative: bool, size: u128) -> i64
 }
 
 /// The difference a - b, by its sign and its magnitude.
-pub(crate) fn difference(a: u128, b: u128) -> (bool, u128)
+#[inline(always)]
+pub(crate) fn difference(a: u64, b: u64) -> (bool, u64)
     ensures is { with_sign result.0 result.1 ≡ pos a -ℤ pos b }
     ensures bound { result.1 ≤ a + b }
 {
@@ -26,6 +28,7 @@ pub(crate) fn difference(a: u128, b: u128) -> (bool, u128)
 }
 
 /// The product of a signed number and x over 2^32, rounded.
+#[inline(always)]
 pub(crate) fn product(negative: bool, size: u128, x: i64) -> i64
     requires fits { size * unsigned_abs x < 2 ^ 126 }
     requires small { nearest_of (size * unsigned_abs x) (2 ^ 32) ≤ 2 ^ 42 }
@@ -39,6 +42,7 @@ pub(crate) fn product(negative: bool, size: u128, x: i64) -> i64
 }
 
 /// The product of two magnitudes over 2^32, rounded.
+#[inline(always)]
 pub(crate) fn product_size(size: u128, a: u64) -> u128
     requires { size * a < 2 ^ 126 }
     ensures { result ≡ nearest_of (size * a) (2 ^ 32) }
@@ -47,6 +51,7 @@ pub(crate) fn product_size(size: u128, a: u64) -> u128
 }
 
 /// The product of a length and a component of a force.
+#[inline(always)]
 fn work_along(x: i64, f: i64) -> i128
     requires x { unsigned_abs x < 2 ^ 28 }
     requires f { unsigned_abs f ≤ 2 ^ 42 }
@@ -57,6 +62,7 @@ fn work_along(x: i64, f: i64) -> i128
 }
 
 /// The product of the displacement (x, y, z) and the force (f, g, h).
+#[inline(always)]
 pub(crate) fn work(x: i64, y: i64, z: i64, f: i64, g: i64, h: i64) -> i128
     requires x { unsigned_abs x < 2 ^ 28 }
     requires y { unsigned_abs y < 2 ^ 28 }

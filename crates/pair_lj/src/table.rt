@@ -4,7 +4,8 @@ ghost use Rattle.pair_lj.specs.Places.{place, AreAllSet};
 
 use crate::close::Close;
 use crate::coefficients::Coefficients;
-use crate::evaluate::evaluate;
+use crate::evaluate::{evaluate, evaluate_with, guess_for};
+use crate::guess::Guess;
 use crate::unset::Unset;
 use box_geo::Term;
 use box_geo::limits::{FULL_WEIGHT, MAX_CUTOFF, MAX_EPSILON, MAX_KINDS, MAX_SIGMA};
@@ -33,6 +34,7 @@ pub struct PairTable {
 impl PairTable {
     ghost use Rattle.std.specs.Prelude.{◌≡◌, ◌⊎◌, ◌+◌, ◌<◌, ◌≤◌, ℕ, pos, unsigned_abs, ◌<ℤ◌, ◌≤ℤ◌, ◌*ℤ◌, IfOk, IfErr, OnOk, OnErr, IfSome, IfNone, IsSomeAnd, IsSome, IsNone, MatchOption};
     ghost use Rattle.pair_lj.specs.Places.{AreAllSet};
+    ghost use Rattle.box_geo.specs.Sides.{length2};
     ghost use Rattle.pair_lj.specs.PairTerm.{pair_term, HasModerateForce, HasModerateEnergy, HasModerateVirial, IsDisplacement};
     ghost use Rattle.pair_lj.specs.Table.{kinds_of, style_cutoff, coefficients_at, IsFinished, IsType, IsSamePair, AreNumbers, HasSameCoefficients, IsFirstUnset};
 
@@ -83,11 +85,8 @@ impl PairTable {
         ensures unfinished { ¬ IsFinished self.new }
     {
         self.finished = false;
-        self.pairs[place(i, j)] = Some(Coefficients {
-            epsilon: eps as u64,
-            sigma: sigma as u64,
-            cutoff: cut as u64,
-        });
+        let coefficients = Coefficients::new(eps as u64, sigma as u64, cut as u64);
+        self.pairs[place(i, j)] = Some(coefficients);
     }
 
     /// Makes the table ready for terms, where each pair of types has coefficients.
@@ -133,6 +132,7 @@ impl PairTable {
     /// [`Close`] where the two are at one place, where the square of sigma over the distance is
     /// above 16, or where a component of the force is above [`box_geo::limits::MAX_TERM_FORCE`]; the
     /// weight doesn't change it.
+    #[inline(always)]
     pub fn term<L: Ledger>(
         &self,
         i: u8,
@@ -157,7 +157,59 @@ impl PairTable {
         evaluate(self.pair(i, j).unwrap(), d, weight.unsigned_abs())
     }
 
+    /// The first half of [`PairTable::term`]: a guess of the quotients, `None` at the cutoff and beyond, where there is
+    /// no term whatever the weight. Where the guesses for several pairs are made before their terms, the processor works
+    /// on all of them at once. It counts no step.
+    #[inline(always)]
+    pub fn guess(&self, i: u8, j: u8, d: V3) -> Option<Guess>
+        requires finished { IsFinished self.now }
+        requires i { IsType self.now i }
+        requires j { IsType self.now j }
+        requires d { IsDisplacement d }
+        ensures near { IsSomeAnd (coefficients_at self.now i j)
+            (λ k. IfSome result (λ g. length2 d < k.cutoff * k.cutoff)) }
+        ensures far { IsSomeAnd (coefficients_at self.now i j)
+            (λ k. IfNone result (k.cutoff * k.cutoff ≤ length2 d)) }
+        ensures none { IsSomeAnd (coefficients_at self.now i j) (λ k. IfNone result
+            ((weight : ℕ) → Ok None ≡ pair_term k.epsilon k.sigma k.cutoff (pos 0) weight d)) }
+    {
+        guess_for(self.pair(i, j).unwrap(), d)
+    }
+
+    /// The second half of [`PairTable::term`]: the same term, whatever was guessed. A wrong guess only takes longer. It
+    /// counts one step.
+    ///
+    /// # Errors
+    ///
+    /// As [`PairTable::term`].
+    #[inline(always)]
+    pub fn term_with<L: Ledger>(
+        &self,
+        i: u8,
+        j: u8,
+        d: V3,
+        weight: i64,
+        guess: Guess,
+        steps: &mut Steps<L>,
+    ) -> Result<Option<Term>, Close>
+        requires finished { IsFinished self.now }
+        requires i { IsType self.now i }
+        requires j { IsType self.now j }
+        requires d { IsDisplacement d }
+        requires weight_low { pos 0 <ℤ weight }
+        requires weight_high { weight ≤ℤ FULL_WEIGHT }
+        ensures is { IsSomeAnd (coefficients_at self.now i j) (λ k. result ≡ pair_term k.epsilon k.sigma k.cutoff (pos 0) (unsigned_abs weight) d) }
+        ensures bounded { IfOk result (λ t. IfSome t HasModerateForce) }
+        ensures energy { IfOk result (λ t. IfSome t HasModerateEnergy) }
+        ensures virial { IfOk result (λ t. IfSome t HasModerateVirial) }
+        ensures step { steps.new ≡ steps.old + 1 }
+    {
+        steps.tick();
+        evaluate_with(self.pair(i, j).unwrap(), d, weight.unsigned_abs(), guess)
+    }
+
     /// The coefficients of a pair of types.
+    #[inline(always)]
     fn pair(&self, i: u8, j: u8) -> Option<Coefficients>
         requires i { IsType self.now i }
         requires j { IsType self.now j }
@@ -200,6 +252,7 @@ impl PairTable {
 }
 
 /// The place of a pair of types.
+#[inline(always)]
 fn place(i: u8, j: u8) -> usize
     requires i { (1 ≤ i) × (i ≤ 64) }
     requires j { (1 ≤ j) × (j ≤ 64) }

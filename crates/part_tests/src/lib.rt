@@ -6,3 +6,7 @@
 mod formulas;
 #[cfg(test)]
 mod numbers;
+#[cfg(test)]
+mod pair_terms;
+#[cfg(test)]
+mod quotients;

@@ -1,7 +1,7 @@
 use Rattle.std.proofs.Common.{◌*◌, ◌^◌, ℤ, pos, ◌*ℤ◌, sym, ap, ◌∙◌}
 use Rattle.fx_num.specs.Rounding.{div_rounded, with_sign}
 use Rattle.pair_lj.proofs.SignLemmas.{strength_is}
-use Rattle.pair_lj.proofs.evaluate.strength.Goals as goal
+use Rattle.pair_lj.proofs.plain.strength.Goals as goal
 
 pub returns-clause-is : goal.returns-clause-is
 returns-clause-is c =

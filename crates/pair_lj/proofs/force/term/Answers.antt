@@ -1,7 +1,7 @@
 use Rattle.std.proofs.Common.{ℤ, FitsSigned, w64, rules}
 use Rattle.fx_num.specs.Rounding.{with_sign}
 use Rattle.pair_lj.proofs.Cases.{component_is, force_is}
-use Rattle.pair_lj.proofs.evaluate.term.Goals as goal
+use Rattle.pair_lj.proofs.force.term.Goals as goal
 
 pub returns-clause-force : goal.returns-clause-force
 returns-clause-force c =

@@ -2,7 +2,7 @@ use Rattle.std.proofs.Common.{◌*◌, ℤ, pos, ◌*ℤ◌, FitsSigned, w64, ru
 use Rattle.std.proofs.lemmas.Int.{to_z-of_z}
 use Rattle.fx_num.specs.Rounding.{shr_rounded, with_sign}
 use Rattle.pair_lj.proofs.SignLemmas.{energy_is, weighted_is}
-use Rattle.pair_lj.proofs.evaluate.energy.Goals as goal
+use Rattle.pair_lj.proofs.plain.energy.Goals as goal
 
 pub returns-clause-is : goal.returns-clause-is
 returns-clause-is c =

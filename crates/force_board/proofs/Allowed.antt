@@ -12,8 +12,8 @@ use Rattle.weave_core.specs.Parts.{total_at, fresh, claimed, added, lowered, col
 use Rattle.weave_core.specs.Agree.{Agree}
 use Rattle.weave_core.proofs.Lists.{at_within, at_set_here}
 use Rattle.weave_core.proofs.Steps.{into_here, total_at-added, counter_bound, claims_keep, adds_keep, lowers_keep}
-use Rattle.weave_core.proofs.Whole.{reads, reads_key, collects_keep, unclaims_keep, unkeys_keep, splits_keep, joins_keep}
-use Rattle.force_board.specs.Steps.{Own, Claims, Looks, Adds, Lowers, Collects, Unclaims, Unkeys}
+use Rattle.weave_core.proofs.Whole.{reads, reads_counter, reads_key, collects_keep, unclaims_keep, unkeys_keep, splits_keep, joins_keep}
+use Rattle.force_board.specs.Steps.{Own, Claims, Looks, Counts, Adds, Lowers, Collects, Unclaims, Unkeys}
 use Rattle.force_board.proofs.Known.{knows, all_drawn}
 
 -- a word that was taken has the total 0
@@ -41,22 +41,29 @@ module _ (P C : ℕ) (key : ℕ × ℕ) (is : key ≡ (P, C)) where
         keeps,
         tt,
         to (set s.words 0 ((n + 1) % 2 ^ 64)) (set s.views id (claimed P me.0 n)) kept,
-        (refl, all_drawn P C s.words s.views id me.0 a at, knows P C (set s.words 0 (n + 1)) (set s.views id (claimed P me.0 n)) id (claimed P me.0 n) after (at_set_here s.views id (claimed P me.0 n) (at_within s.views id me.0 at))),
+        (refl, all_drawn P C s.words s.views id me.0 a at, knows P C (set s.words 0 (n + 1)) (set s.views id (claimed P me.0 n)) id (claimed P me.0 n) after (at_set_here s.views id (claimed P me.0 n) (at_within s.views id me.0 at)) few),
       )
 
-  looks : (slots id : ℕ) (me : Own) → Allows Rule slots id me 0 (λ n. n) (Looks P (step slots 0 0 0 none) me)
-  looks slots id me s holds len at under =
+  looks : (slots id : ℕ) (me : Own) → P ≤ MAX_PIECES → Allows Rule slots id me 0 (λ n. n) (Looks P (step slots 0 0 0 none) me)
+  looks slots id me few s holds len at under =
       let a = from s.words s.views holds in
       let words_stay : set s.words 0 (slice_index s.words 0) ≡ s.words = set-get_or s.words 0 0 in
       let views_stay : set s.views id me.0 ≡ s.views = set_again s.views id me.0 at in
-      (me.0, keeps, tt, rw words_stay (rw views_stay holds), (refl, knows P C s.words s.views id me.0 a at))
+      (me.0, keeps, tt, rw words_stay (rw views_stay holds), (refl, knows P C s.words s.views id me.0 a at few))
+
+  pub counts : (slots id : ℕ) (me : Own) → me.0.shares ≡ SHARES → Allows Rule slots id me 0 (λ n. n) (Counts (step slots 0 0 0 none) me)
+  counts slots id me all s holds len at under =
+      let a = from s.words s.views holds in
+      let words_stay : set s.words 0 (slice_index s.words 0) ≡ s.words = set-get_or s.words 0 0 in
+      let views_stay : set s.views id me.0 ≡ s.views = set_again s.views id me.0 at in
+      (me.0, keeps, tt, rw words_stay (rw views_stay holds), (refl, reads_counter P C s.words s.views id me.0 a at all))
 
   -- the same where a call picks the number of pieces
   pub claims_at : (number : ℕ) → number ≡ P → (slots id : ℕ) (me : Own) → P ≤ MAX_PIECES → me.0.misses < me.0.shares → Allows Rule slots id me 0 (λ n. (n + 1) % 2 ^ 64) (Claims number (step slots 0 1 0 none) me)
   claims_at number picked slots id me few room = subst (λ m. Allows Rule slots id me 0 (λ n. (n + 1) % 2 ^ 64) (Claims m (step slots 0 1 0 none) me)) (sym picked) (claims slots id me few room)
 
-  pub looks_at : (number : ℕ) → number ≡ P → (slots id : ℕ) (me : Own) → Allows Rule slots id me 0 (λ n. n) (Looks number (step slots 0 0 0 none) me)
-  looks_at number picked slots id me = subst (λ m. Allows Rule slots id me 0 (λ n. n) (Looks m (step slots 0 0 0 none) me)) (sym picked) (looks slots id me)
+  pub looks_at : (number : ℕ) → number ≡ P → (slots id : ℕ) (me : Own) → P ≤ MAX_PIECES → Allows Rule slots id me 0 (λ n. n) (Looks number (step slots 0 0 0 none) me)
+  looks_at number picked slots id me few = subst (λ m. Allows Rule slots id me 0 (λ n. n) (Looks m (step slots 0 0 0 none) me)) (sym picked) (looks slots id me few)
 
   pub adds : (slots id : ℕ) (me : Own) (word operand : ℕ) (value : ℤ) → word < C → 0 < me.0.shares → FitsSigned w64 value → operand ≡ of_z w64 value
       → Allows Rule slots id me (word + 2) (λ n. (n + operand) % 2 ^ 64) (Adds (step slots (word + 2) operand 0 none) me)

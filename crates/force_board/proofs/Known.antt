@@ -5,6 +5,7 @@ use Rattle.std.proofs.lemmas.List.Elements.{All-nil, All-cons}
 use mathlib.Core.Option.{some}
 use lib.ListN.{get_elem?}
 use Rattle.weave_core.specs.declared.part.Part.{Part}
+use Rattle.weave_core.specs.declared.limits.TheConstants.{MAX_PIECES}
 use Rattle.weave_core.specs.Parts.{numbers_below}
 use Rattle.weave_core.specs.Agree.{Agree}
 use Rattle.weave_core.proofs.Lists.{at-le-sum_by}
@@ -38,8 +39,9 @@ all_inside n (x ∷ xs) none =
     by_test false is none_there = absurd (omega (arith, none_there))
 
 module _ (pieces count : ℕ) (words : List ℕ) (parts : List Part) (id : ℕ) (v : Part) (a : Agree pieces count words parts) (at : get_elem? parts id ≡ some v) where
-  pub knows : Knows pieces v
-  knows = record {
+  pub knows : pieces ≤ MAX_PIECES → Knows pieces v
+  knows most = record {
+    most = most;
     few = omega (arith, held_count pieces count words parts a, at-le-sum_by (λ (u : Part). length u.pieces) parts id v at);
     low = (here pieces count words parts id v a at).key;
     whole = λ all missed. has_each pieces count words parts id v a at all missed;

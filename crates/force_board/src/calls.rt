@@ -1,5 +1,5 @@
 //! The calls on a board: each is one atomic step on one word, but `join` and `rewind`, which are two.
-ghost use Rattle.std.specs.Prelude.{◌≡◌, ◌+◌, ◌*◌, ◌<◌, ◌≤◌, [], ◌∷◌, ◌++◌, pos, All, FitsSigned, IfNone, IfOk, IfSome};
+ghost use Rattle.std.specs.Prelude.{◌≡◌, ◌+◌, ◌*◌, ◌<◌, ◌≤◌, [], ◌∷◌, ◌++◌, length, pos, All, FitsSigned, IfNone, IfOk, IfSome};
 ghost use mir.Syntax.{w64};
 ghost use Rattle.weave_core.specs.Parts.{fresh, claimed, added, lowered, collected, unclaimed, unkeyed, giving, both, total_at};
 ghost use Rattle.force_board.specs.Steps.{Knows};
@@ -7,7 +7,7 @@ ghost use Rattle.force_board.specs.Seats.{pieces_of, words_of, part, IsSeatOf};
 
 use crate::board::{Board, Seat};
 use crate::limits::{MAX_ATOMS, WORDS_PER_ATOM};
-use crate::rule::{Add, Both, Claim, Collect, Cut, Look, Lower, Number, Unclaim, Unkey};
+use crate::rule::{Add, Both, Claim, Collect, Count, Cut, Look, Lower, Number, Unclaim, Unkey};
 use atomic_table::Table;
 use fx_num::NoMemory;
 use std::alloc::Global;
@@ -141,6 +141,17 @@ impl Board {
         ensures known { Knows (pieces_of self.now) (part seat.new) }
     {
         self.table.shared.load::<Look<N>>(seat, 0);
+    }
+
+    /// How many claims there were since the last rewind, in vain or not, for the holder of all shares.
+    pub fn claims(&self, seat: &mut Seat) -> u64
+        requires seat { IsSeatOf self.now seat.old }
+        requires all { (part seat.old).shares ≡ SHARES }
+        ensures seat { IsSeatOf self.now seat.new }
+        ensures count { result ≡ length (part seat.old).pieces + (part seat.old).misses }
+        ensures same { part seat.new ≡ part seat.old }
+    {
+        self.table.shared.load::<Count>(seat, 0)
     }
 
     /// Takes the total of a force word, and leaves 0, for the holder of all shares.

@@ -10,8 +10,6 @@ mod board;
 mod calls;
 mod limits;
 mod rule;
-#[cfg(test)]
-mod tests;
 
 pub use board::{Board, Seat};
 pub use limits::{MAX_ATOMS, WORDS_PER_ATOM};

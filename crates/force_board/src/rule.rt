@@ -3,7 +3,7 @@ ghost use Rattle.std.specs.Prelude.{ℕ};
 ghost use Rattle.weave_core.specs.Parts.{fresh, giving, both};
 ghost use Rattle.weave_core.specs.Agree.{Agree};
 ghost use Rattle.weave_core.specs.declared.limits.TheConstants.{SHARES};
-ghost use Rattle.force_board.specs.Steps.{Adds, Claims, Lowers, Looks, Collects, Unclaims, Unkeys};
+ghost use Rattle.force_board.specs.Steps.{Adds, Claims, Lowers, Looks, Counts, Collects, Unclaims, Unkeys};
 
 use atomic_table::{Join, Play, Split, TableRule};
 use std::marker::{Brand, PhantomData};
@@ -43,6 +43,13 @@ pub(crate) struct Look<N> {
 
 impl<N: Number> Play<u8, Part> for Look<N> {
     ghost then = { Looks N.number };
+}
+
+/// The claims are counted, by the holder of all shares.
+pub(crate) struct Count;
+
+impl Play<u8, Part> for Count {
+    ghost then = { Counts };
 }
 
 /// An add to a force word.

@@ -6,12 +6,14 @@
 #![tactic(auto)]
 
 mod files;
+mod gate;
 mod memory;
 mod press;
 mod shelf;
 mod sure;
 
 pub use files::{File, Files};
+pub use gate::{Gate, OpenGate};
 pub use memory::{Calls, Cut, Cuts, MemPress, MemShelf};
 pub use press::{Piece, Press, PutRefusal, SCREEN};
 pub use shelf::{FetchRefusal, MAX_FETCHED, Shelf};

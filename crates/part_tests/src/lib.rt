@@ -3,6 +3,8 @@
 #![tactic(auto)]
 
 #[cfg(test)]
+mod boards;
+#[cfg(test)]
 mod formulas;
 #[cfg(test)]
 mod numbers;
@@ -10,3 +12,7 @@ mod numbers;
 mod pair_terms;
 #[cfg(test)]
 mod quotients;
+#[cfg(test)]
+mod teams;
+#[cfg(test)]
+mod weaves;

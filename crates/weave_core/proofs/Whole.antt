@@ -48,6 +48,10 @@ module _ (pieces count : ℕ) (words : List ℕ) (parts : List Part) (id : ℕ) 
   pub reads_key : slice_index words 1 ≡ v.key
   reads_key = a.fault ∙ least-alone (λ u. u.shares) (λ u. u.key) parts id v at whole (here pieces count words parts id v a at).key (idle_key parts a.sound)
 
+  -- the counter is the number of pieces and of misses
+  pub reads_counter : slice_index words 0 ≡ length v.pieces + v.misses
+  reads_counter = omega (arith, a.counter, sum_is (λ u. length u.pieces) refl, sum_is (λ u. u.misses) refl)
+
   -- with a miss, the counter has passed every piece, and this holder has each once
   pub has_each : 0 < v.misses → HasEachBelow pieces v.pieces
   has_each missed weight =

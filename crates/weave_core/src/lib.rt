@@ -13,8 +13,6 @@ mod laws;
 mod limits;
 mod part;
 mod plan;
-#[cfg(test)]
-mod tests;
 mod valid;
 mod weave;
 

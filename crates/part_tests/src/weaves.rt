@@ -1,13 +1,9 @@
-//! The same plan in several orders.
-use crate::event::Event;
-use crate::event::Event::{Add, Claim, Lower};
-use crate::laws::order_free;
-use crate::limits::SHARES;
-use crate::plan::{Adds, Piece, Pieces, Plan};
-use crate::weave::Weave;
+//! The concurrent core without threads: the same plan in several orders.
 use std::alloc::Global;
 use std::process::Abort;
 use std::test::Fail;
+use weave_core::Event::{Add, Claim, Lower};
+use weave_core::{Adds, Event, Piece, Pieces, Plan, SHARES, Weave, order_free};
 
 // Two words and three pieces: one with two adds and the key 9, one with an add and the key 7, one with nothing to do.
 fn small_plan(alloc: Global) -> Result<Plan, Fail> {

@@ -1,6 +1,6 @@
 use Rattle.std.proofs.Common.{◌≡◌, ◌-◌, length}
 use Rattle.force_board.specs.Seats.{pieces_of, part, IsSeatOf}
-use Rattle.force_board.proofs.tests.claim_all.Given as goal
+use Rattle.part_tests.proofs.boards.claim_all.Given as goal
 
 abbrev pub invariant-loop-piece : goal.invariant-loop-piece
 invariant-loop-piece l = IsSeatOf l.board l.seat × ((part l.seat).misses ≡ 0)

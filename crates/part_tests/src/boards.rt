@@ -2,11 +2,12 @@
 ghost use Rattle.std.specs.Prelude.{◌≡◌};
 ghost use Rattle.force_board.specs.Seats.{part, IsSeatOf};
 
-use crate::board::{Board, Seat};
+use force_board::{Board, Seat};
 use std::sync::Wait;
 use std::test::Fail;
 use std::thread;
 use std::thread::Threads;
+use weave_core::NO_KEY;
 
 #[test]
 fn claims_in_turns(rt: HostRuntime) -> Result<(), Fail> {
@@ -17,7 +18,8 @@ fn claims_in_turns(rt: HostRuntime) -> Result<(), Fail> {
     assert_eq!(rt; board.claim(&mut first), Some(2));
     assert_eq!(rt; board.claim(&mut second), None);
     assert_eq!(rt; board.claim(&mut first), None);
-    assert_eq!(rt; board.table.shared.peek(0), 5);
+    board.join(&mut first, second);
+    assert_eq!(rt; board.claims(&mut first), 5);
     Ok(())
 }
 
@@ -31,7 +33,9 @@ fn opposite_adds_leave_nothing(rt: HostRuntime) -> Result<(), Fail> {
     board.join(&mut first, second);
     assert_eq!(rt; board.collect(&mut first, 2), 0);
     assert_eq!(rt; board.rewind(&mut first), 9);
-    assert_eq!(rt; board.table.shared.peek(0), 0);
+    assert_eq!(rt; board.rewind(&mut first), NO_KEY);
+    assert_eq!(rt; board.claims(&mut first), 0);
+    assert_eq!(rt; board.claim(&mut first), Some(0));
     Ok(())
 }
 
@@ -98,6 +102,5 @@ fn two_threads_claim_each_piece_once(rt: HostRuntime) -> Result<(), Fail> {
     let (one, two) = claim_in_threads(&rt, &board, first, second);
     assert_eq!(rt; one.0.wrapping_add(two.0), 3);
     assert_eq!(rt; one.1 ^ two.1, 0b111);
-    assert_eq!(rt; board.table.shared.peek(0), 5);
     Ok(())
 }

@@ -1,20 +1,25 @@
 //! The texts of the program: those that `--help` and `--version` print, and those on standard error.
+ghost use Rattle.std.specs.Prelude.{OnOk};
+ghost use Rattle.std.specs.Io.KnownBytes.{Appends};
+ghost use Rattle.program.specs.Request.{help_text};
 
 use fx_num::Text;
 use fxlmp_top::Status;
+use std::io::Write;
 use std::{fmt, io, str};
 
 /// The program's name and version.
-pub(crate) const VERSION: &str = "fxlmp 0.1.0";
+pub(crate) const VERSION: &str = "fxlmp 0.1.0\n";
 
 /// How the program is called.
-pub(crate) const USAGE: &str = "\
+const USAGE: &str = "
 usage: fxlmp -in FILE    run the script FILE
        fxlmp --help      print how to use the program
-       fxlmp --version   print its name and version";
+       fxlmp --version   print its name and version
+";
 
 /// What the program is, its words, and its exit statuses.
-const DETAILS: &str = "\
+const DETAILS: &str = "
 fxlmp runs LAMMPS input scripts of molecular dynamics in whole-number
 arithmetic: every length, velocity, force and energy is a whole multiple of
 2^-24. Units are those of `units lj`.
@@ -92,45 +97,57 @@ exit status:
   6   out of memory
   7   the command line is wrong
   9   the script or its data file is in a form that this version does not run:
-      standard error says which of them, and at which line";
+      standard error says which of them, and at which line
+";
 
-/// The text that `--help` prints.
-#[derive(Clone, Copy)]
-pub(crate) struct Help;
+/// Prints the text on how to use the program.
+pub(crate) fn print_help<W: Write>(to: &mut W) -> io::Result<()>
+    ensures { OnOk result (Appends (W.contents to.old) (W.contents to.new) help_text) }
+{
+    to.write_all(VERSION.as_bytes())?;
+    to.write_all(USAGE.as_bytes())?;
+    to.write_all(DETAILS.as_bytes())?;
+    Ok(())
+}
 
-impl fmt::Display for Help {
-    fn fmt<W: fmt::Write>(&self, f: &mut fmt::Formatter<W>) -> fmt::Result {
-        write!(f, "{VERSION}\n\n{USAGE}\n\n{DETAILS}")
-    }
+/// Prints the program's name and version.
+pub(crate) fn print_version<W: Write>(to: &mut W) -> io::Result<()>
+    ensures { OnOk result (Appends (W.contents to.old) (W.contents to.new) VERSION.now) }
+{
+    to.write_all(VERSION.as_bytes())
 }
 
 /// Says on standard error what a status means, unless the run's own output says it. `words` are those
 /// of the command line, where they were read.
-pub(crate) fn explain(rt: &impl Eprint, words: Option<&[Text]>, status: &Status) -> io::Result<()> {
+pub(crate) fn explain(
+    to: &mut impl Write,
+    words: Option<&[Text]>,
+    status: &Status,
+) -> io::Result<()> {
     let cause = match status {
         Status::Done | Status::ScriptRefused { .. } | Status::RangeFault { .. } => return Ok(()),
         Status::Usage { place } => {
             let place = *place;
-            return eprintln!(rt; "fxlmp: {}\n\n{USAGE}", WrongWord { words, place });
+            return write!(to, "fxlmp: {}\n{USAGE}", WrongWord { words, place });
         }
         Status::NotBuilt { file, line } => {
             let line = *line;
-            return eprintln!(rt; "fxlmp: {}", UnknownForm { file, line });
+            return writeln!(to, "fxlmp: {}", UnknownForm { file, line });
         }
         Status::ReadFault => "a file cannot be read",
         Status::WriteFault => "a file or the standard output cannot be written",
         Status::NoMemory => "out of memory",
     };
-    eprintln!(rt; "fxlmp: {cause}")
+    writeln!(to, "fxlmp: {cause}")
 }
 
 /// A file in a form that is not run, and the first line that no file of the form has there.
 #[derive(Clone, Copy)]
-pub(crate) struct UnknownForm<'a> {
+struct UnknownForm<'a> {
     /// The name of the file.
-    pub file: &'a Text,
+    file: &'a Text,
     /// The line.
-    pub line: u32,
+    line: u32,
 }
 
 impl fmt::Display for UnknownForm<'_> {
@@ -149,11 +166,11 @@ impl fmt::Display for UnknownForm<'_> {
 /// What is wrong with a command line: the place of its first wrong word, counted from 0, or the number
 /// of its words where one is missing.
 #[derive(Clone, Copy)]
-pub(crate) struct WrongWord<'a> {
+struct WrongWord<'a> {
     /// The words, where they were read.
-    pub words: Option<&'a [Text]>,
+    words: Option<&'a [Text]>,
     /// The place.
-    pub place: u64,
+    place: u64,
 }
 
 impl WrongWord<'_> {

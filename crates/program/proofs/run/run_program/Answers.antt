@@ -3,8 +3,8 @@ use Rattle.fxlmp_top.specs.declared.status.Status.{Status}
 use Rattle.fxlmp_top.specs.declared.status.Status.TheVariants.{Done, ScriptRefused, RangeFault, ReadFault, WriteFault, NoMemory, Usage, NotBuilt}
 use Rattle.fxlmp_top.specs.Ends.{number_of}
 use Rattle.fxlmp_top.specs.Words.{script_name}
-use Rattle.fxlmp.specs.Request.{request_of}
-use Rattle.fxlmp.proofs.exit_of.Goals as goal
+use Rattle.program.specs.Request.{request_of}
+use Rattle.program.proofs.run.run_program.Goals as goal
 
 -- two equal reads have the same words
 same_words : {X E : Type 0} (r : Result X E) (a b : X) → r ≡ Ok a → r ≡ Ok b → a ≡ b

@@ -1,5 +1,5 @@
 //! Where pieces of files are written.
-ghost use Rattle.std.specs.Prelude.{◌≡◌, ◌≤◌, ◌++◌, Option, List, ℕ, [], ◌∷◌, OnOk, OnErr, IsErrOf};
+ghost use Rattle.std.specs.Prelude.{◌≡◌, ◌≤◌, ◌++◌, Option, List, ℕ, [], ◌∷◌, OnOk, OnErr, IsErrOf, codes};
 ghost use Rattle.outside.specs.Sent.{plus, piece_of, PutsCut};
 ghost use Rattle.outside.specs.Stock.{Rose};
 ghost use Rattle.outside.specs.declared.press.Piece.{Piece};
@@ -11,6 +11,11 @@ use thiserror::Error;
 
 /// Pieces under this name go to the screen: a press puts them into no file.
 pub const SCREEN: &[u8] = b"*screen*";
+
+/// The name of the screen, byte by byte: a law, which does nothing when it runs.
+pub fn screen_has_this_name()
+    ensures { SCREEN.now ≡ codes "*screen*" }
+{}
 
 /// A piece of a file.
 #[derive(Drop)]

@@ -11,6 +11,11 @@ use thiserror::Error;
 /// A fetched file has at most this many bytes: 2^28.
 pub const MAX_FETCHED: u64 = 1 << 28;
 
+/// The greatest length of a fetched file as a number: a law, which does nothing when it runs.
+pub fn fetch_limit_is_this_number()
+    ensures { MAX_FETCHED ≡ 268435456 }
+{}
+
 /// Why a file was not fetched.
 #[derive(Clone, Copy, Debug, PartialEq, Eq, Error)]
 pub enum FetchRefusal {

@@ -9,8 +9,6 @@ pub mod limits;
 mod sim_box;
 mod styles;
 mod term;
-#[cfg(test)]
-mod tests;
 mod wrap;
 
 pub use atoms::{

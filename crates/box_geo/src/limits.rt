@@ -1,5 +1,8 @@
 //! The limits of the whole project. Lengths, velocities, forces, energies and masses are in units of
 //! 2^-24; a greatest or least value belongs to the range.
+//!
+//! Definitions and code cite a limit by its name; [`limits_are_these_numbers`] is the table of numbers.
+ghost use Rattle.box_geo.specs.Limits.{AreTheLimits};
 
 /// The greatest number of atoms of a system, and of points that a lattice makes.
 pub const MAX_ATOMS: u32 = 1 << 20;
@@ -83,3 +86,8 @@ pub const MAX_SCRIPT_BYTES: usize = 1 << 20;
 pub const MAX_NAME_BYTES: usize = 64;
 /// The greatest number of bytes of a file's name.
 pub const MAX_FILE_NAME_BYTES: usize = 255;
+
+/// The limits as numbers, each by its name: a law, which does nothing when it runs.
+pub fn limits_are_these_numbers()
+    ensures { AreTheLimits }
+{}

@@ -8,6 +8,3 @@ mod pressure;
 pub use energy::share;
 pub use kinetic::{kinetic_share, kinetic_sum, temp};
 pub use pressure::press;
-
-#[cfg(test)]
-mod tests;

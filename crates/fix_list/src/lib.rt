@@ -2,7 +2,5 @@
 #![tactic(auto)]
 
 mod fixes;
-#[cfg(test)]
-mod tests;
 
 pub use fixes::{Fix, FixList, FixRefusal, NamedFix};

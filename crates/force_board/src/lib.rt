@@ -12,4 +12,4 @@ mod limits;
 mod rule;
 
 pub use board::{Board, Seat};
-pub use limits::{MAX_ATOMS, WORDS_PER_ATOM};
+pub use limits::{MAX_ATOMS, WORDS_PER_ATOM, board_sizes_are_these_numbers};

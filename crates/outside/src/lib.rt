@@ -15,9 +15,6 @@ mod sure;
 pub use files::{File, Files};
 pub use gate::{Gate, OpenGate};
 pub use memory::{Calls, Cut, Cuts, MemPress, MemShelf};
-pub use press::{Piece, Press, PutRefusal, SCREEN};
-pub use shelf::{FetchRefusal, MAX_FETCHED, Shelf};
+pub use press::{Piece, Press, PutRefusal, SCREEN, screen_has_this_name};
+pub use shelf::{FetchRefusal, MAX_FETCHED, Shelf, fetch_limit_is_this_number};
 pub use sure::{SurePress, SureShelf};
-
-#[cfg(test)]
-mod tests;

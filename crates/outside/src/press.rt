@@ -1,5 +1,5 @@
 //! Where pieces of files are written.
-ghost use Rattle.std.specs.Prelude.{◌≡◌, ◌≤◌, ◌++◌, Option, List, ℕ, [], ◌∷◌, OnOk, OnErr, IsErrOf};
+ghost use Rattle.std.specs.Prelude.{◌≡◌, ◌≤◌, ◌++◌, Option, List, ℕ, [], ◌∷◌, OnOk, OnErr, IsErrOf, codes};
 ghost use Rattle.outside.specs.Sent.{plus, piece_of, PutsCut};
 ghost use Rattle.outside.specs.Stock.{Rose};
 ghost use Rattle.outside.specs.declared.press.Piece.{Piece};
@@ -11,6 +11,11 @@ use thiserror::Error;
 
 /// Pieces under this name go to the screen: a press puts them into no file.
 pub const SCREEN: &[u8] = b"*screen*";
+
+/// The name of the screen, byte by byte: a law, which does nothing when it runs.
+pub fn screen_has_this_name()
+    ensures { SCREEN.now ≡ codes "*screen*" }
+{}
 
 /// A piece of a file.
 #[derive(Drop)]
@@ -45,7 +50,7 @@ impl From<NoMemory> for PutRefusal {
 /// A writer of files, piece by piece.
 ///
 /// `sent` is the pieces so far, or `None` where the press does not tell. `faults` counts its
-/// failures and never falls.
+/// failures: it never falls, and stays at any other answer.
 pub trait Press {
     ghost sent: { Self → Option (List Piece) };
 
@@ -68,7 +73,8 @@ pub trait Press {
         ensures faulted { IsErrOf result PutRefusal.Faulted → Rose (faults self.old) (faults self.new) }
         ensures cut { IsErrOf result PutRefusal.Faulted → PutsCut (sent self.old) (piece_of name.now fresh bytes.now) (sent self.new) }
         ensures no_memory { IsErrOf result PutRefusal.NoMemory → sent self.new ≡ sent self.old }
-        ensures faults_kept { faults self.old ≤ faults self.new };
+        ensures faults_kept { faults self.old ≤ faults self.new }
+        ensures faults_stay { (IsErrOf result PutRefusal.Faulted → ⊥) → faults self.new ≡ faults self.old };
 }
 
 /// Appends a copy of a piece to a list of pieces. A refusal leaves the list as it was.

@@ -5,7 +5,9 @@
 #![tactic(auto)]
 
 mod press;
+mod reading;
 mod shelf;
+mod writing;
 
 pub use press::FilePress;
 pub use shelf::FileShelf;

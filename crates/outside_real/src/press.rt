@@ -1,14 +1,14 @@
 //! Pieces that are written to files of the program's folder, or to the standard output.
-ghost use Rattle.std.specs.Prelude.{◌≡◌, ◌≤◌, ◌↔◌, IsTrue, None, not};
+ghost use Rattle.std.specs.Prelude.{◌≡◌, ◌≤◌, IsTrue, None, not};
 ghost use Rattle.std.specs.Fs.{asks_append, asks_create, asks_truncate, IsValidOptions};
-ghost use Rattle.std.specs.IoError.{error_kind};
 ghost use Rattle.outside_real.specs.Counts.{put_faults_after};
 
+use crate::writing::put_into;
 use fx_num::Text;
 use outside::{Press, PutRefusal, SCREEN};
 use std::alloc::Global;
 use std::fs::OpenOptions;
-use std::io::{ErrorKind, Write};
+use std::io::ErrorKind;
 use std::marker::Model;
 use std::rt::Files;
 use std::{io, str};
@@ -55,33 +55,18 @@ impl<R: Files + Print + Drop> Press for FilePress<R> {
         ensures counted { self.new ≡ put_faults_after self.old result }
         ensures faults_kept { self.old ≤ self.new }
     {
-        match write_piece(&self.rt, name, fresh, bytes) {
-            Ok(()) => Ok(()),
-            Err(PutRefusal::NoMemory) => Err(PutRefusal::NoMemory),
-            Err(PutRefusal::Faulted) => {
-                self.faults = self.faults.saturating_add(1);
-                Err(PutRefusal::Faulted)
-            }
+        if name.as_bytes() == SCREEN {
+            return put_into(&mut self.faults, &mut Ok(io::writer(&self.rt)), bytes);
         }
+        put_into(&mut self.faults, &mut open(&self.rt, name, fresh), bytes)
     }
 }
 
-/// Writes a piece to the screen or to its file.
-fn write_piece<R: Files + Print>(
-    rt: &R,
-    name: &Text,
-    fresh: bool,
-    bytes: &[u8],
-) -> Result<(), PutRefusal> {
-    if name.as_bytes() == SCREEN {
-        return write_whole(&mut io::writer(rt), bytes);
-    }
+/// Opens the file of this name to write a piece of it.
+fn open<R: Files>(rt: &R, name: &Text, fresh: bool) -> io::Result<R::File> {
     match str::from_utf8(name.as_bytes()) {
-        Err(_) => Err(PutRefusal::Faulted),
-        Ok(path) => match options(fresh).open(rt, path) {
-            Ok(mut file) => write_whole(&mut file, bytes),
-            Err(error) => Err(refusal_of(&error)),
-        },
+        Ok(path) => options(fresh).open(rt, path),
+        Err(_) => Err(io::Error::from(ErrorKind::InvalidInput)),
     }
 }
 
@@ -100,22 +85,4 @@ fn options(fresh: bool) -> OpenOptions
         options.append(true);
     }
     options
-}
-
-/// Writes all bytes. A write that takes some of them goes on with the rest.
-fn write_whole(to: &mut impl Write, bytes: &[u8]) -> Result<(), PutRefusal> {
-    match to.write_all(bytes).and_then(|()| to.flush()) {
-        Ok(()) => Ok(()),
-        Err(_) => Err(PutRefusal::Faulted),
-    }
-}
-
-/// What a failure to open a file means. Nothing was written then.
-fn refusal_of(error: &io::Error) -> PutRefusal
-    ensures { (result ≡ PutRefusal.NoMemory) ↔ (error_kind error.now ≡ ErrorKind.OutOfMemory) }
-{
-    match error.kind() {
-        ErrorKind::OutOfMemory => PutRefusal::NoMemory,
-        _ => PutRefusal::Faulted,
-    }
 }

@@ -5,11 +5,21 @@
 #[cfg(test)]
 mod boards;
 #[cfg(test)]
+mod boxes;
+#[cfg(test)]
+mod engines;
+#[cfg(test)]
+mod fixes;
+#[cfg(test)]
 mod formulas;
 #[cfg(test)]
 mod numbers;
 #[cfg(test)]
+mod outsides;
+#[cfg(test)]
 mod pair_terms;
+#[cfg(test)]
+mod quantities;
 #[cfg(test)]
 mod quotients;
 #[cfg(test)]

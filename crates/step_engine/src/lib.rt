@@ -13,8 +13,6 @@ mod room;
 mod rows;
 mod rules;
 mod tally;
-#[cfg(test)]
-mod tests;
 
 pub use engine::{Engine, EngineRefusal, StepEnd};
 pub use rules::{ForceField, Rules};

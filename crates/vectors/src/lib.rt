@@ -10,6 +10,8 @@ mod failing;
 #[cfg(test)]
 mod logs;
 #[cfg(test)]
+mod programs;
+#[cfg(test)]
 mod refusals;
 #[cfg(test)]
 mod setting;

@@ -82,7 +82,7 @@ pub(crate) fn files_of(alloc: Global, named: &[(&str, &str)]) -> Result<Files, N
 }
 
 /// The words as texts.
-fn texts_of(alloc: Global, words: &[&str]) -> Result<Seq<Text>, NoMemory> {
+pub(crate) fn texts_of(alloc: Global, words: &[&str]) -> Result<Seq<Text>, NoMemory> {
     let mut texts = Seq::new(alloc);
     for word in words {
         texts.push(Text::from_bytes(alloc, word.as_bytes())?)?;

@@ -18,7 +18,7 @@ mod weave;
 
 pub use event::{Event, Hand};
 pub use laws::order_free;
-pub use limits::{MAX_ADD, MAX_PIECES, NO_KEY, SHARES};
+pub use limits::{MAX_ADD, MAX_PIECES, NO_KEY, SHARES, plan_limits_are_these_numbers};
 pub use part::Part;
 pub use plan::{Adds, Piece, Pieces, Plan};
 pub use weave::Weave;

@@ -1,0 +1,19 @@
+//! A stored run of the program that is refused: its script names a data file that is not there.
+#![tactic(auto)]
+
+use outside_real::{FilePress, FileShelf};
+use program::{read_words, run_program};
+use std::process::ExitCode;
+
+fn main(rt: HostRuntime) -> ExitCode {
+    let mut shelf = FileShelf::new(&rt);
+    let mut press = FilePress::new(&rt);
+    run_program(
+        rt.alloc(),
+        read_words(&rt),
+        &mut shelf,
+        &mut press,
+        &mut rt.stdout(),
+        &mut rt.stderr(),
+    )
+}

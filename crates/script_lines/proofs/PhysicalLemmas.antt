@@ -1,0 +1,84 @@
+-- The first physical line of a text, by the place of the first line feed.
+use Rattle.std.proofs.Common.{◌≡◌, ◌∙◌, ◌+◌, ◌<◌, ◌≤◌, ◌==◌, ℕ, suc, Bool, true, false, not, cond, List, [], ◌∷◌, ◌++◌, length, take, drop, refl, sym, ap, append_assoc, append-nil, arith}
+use Rattle.std.specs.List.{prefix_len}
+use Rattle.script_lines.specs.Physical.{ended_line, feeds, is_line_byte, last_byte, last_line, line_with, lines_behind, physical_lines, without_return}
+
+-- how far the first line feed is, or the length
+abbrev line_len : List ℕ → ℕ
+line_len text = prefix_len is_line_byte text
+
+abbrev len_by : Bool → List ℕ → ℕ
+len_by feed text = cond (not feed) (1 + line_len text) 0
+
+split_by : (feed : Bool) (line : List ℕ) (c : ℕ) (text : List ℕ) (b : ℕ) (after : List ℕ)
+    → ((line : List ℕ) → drop (line_len text) text ≡ b ∷ after → lines_behind line text ≡ without_return (line ++ take (line_len text) text) ∷ physical_lines after)
+    → drop (len_by feed text) (c ∷ text) ≡ b ∷ after
+    → ended_line feed line ++ lines_behind (line_with feed line c) text ≡ without_return (line ++ take (len_by feed text) (c ∷ text)) ∷ physical_lines after
+split_by true line c text b after rest e =
+    let t : text ≡ after = cc in
+    rw (append-nil line, t) refl
+split_by false line c text b after rest e =
+    let k : 1 + line_len text ≡ suc (line_len text) = omega arith in
+    let d : drop (suc (line_len text)) (c ∷ text) ≡ b ∷ after = rw k at e in
+    rw k (rest (line ++ c ∷ []) d ∙ ap (λ l. without_return l ∷ physical_lines after) (append_assoc line (c ∷ []) (take (line_len text) text)))
+
+pub lines_behind-split : (line text : List ℕ) (b : ℕ) (after : List ℕ) → drop (line_len text) text ≡ b ∷ after
+    → lines_behind line text ≡ without_return (line ++ take (line_len text) text) ∷ physical_lines after
+lines_behind-split line [] b after e = cc
+lines_behind-split line (c ∷ text) b after e = split_by (c == 10) line c text b after (λ l. lines_behind-split l text b after) e
+
+feeds_by : (feed : Bool) (c : ℕ) (text : List ℕ) (b : ℕ) (after : List ℕ)
+    → (drop (line_len text) text ≡ b ∷ after → feeds text ≡ 1 + feeds after)
+    → drop (len_by feed text) (c ∷ text) ≡ b ∷ after → cond feed 1 0 + feeds text ≡ 1 + feeds after
+feeds_by true c text b after rest e = let t : text ≡ after = cc in rw t refl
+feeds_by false c text b after rest e =
+    let k : 1 + line_len text ≡ suc (line_len text) = omega arith in
+    let d : drop (suc (line_len text)) (c ∷ text) ≡ b ∷ after = rw k at e in
+    omega (arith, rest d)
+
+pub feeds-split : (text : List ℕ) (b : ℕ) (after : List ℕ) → drop (line_len text) text ≡ b ∷ after → feeds text ≡ 1 + feeds after
+feeds-split [] b after e = cc
+feeds-split (c ∷ text) b after e = feeds_by (c == 10) c text b after (feeds-split text b after) e
+
+-- a text without a line feed
+none_by : (feed : Bool) (line : List ℕ) (c : ℕ) (text : List ℕ)
+    → ((line : List ℕ) → length text ≤ line_len text → lines_behind line text ≡ last_line (line ++ text))
+    → length (c ∷ text) ≤ len_by feed text
+    → ended_line feed line ++ lines_behind (line_with feed line c) text ≡ last_line (line ++ c ∷ text)
+none_by true line c text rest h = absurd (omega arith)
+none_by false line c text rest h = rest (line ++ c ∷ []) (omega arith) ∙ ap last_line (append_assoc line (c ∷ []) text)
+
+pub lines_behind-none : (line text : List ℕ) → length text ≤ line_len text → lines_behind line text ≡ last_line (line ++ text)
+lines_behind-none line [] h = ap last_line (sym (append-nil line))
+lines_behind-none line (c ∷ text) h = none_by (c == 10) line c text (λ l. lines_behind-none l text) h
+
+no_feeds_by : (feed : Bool) (c : ℕ) (text : List ℕ) → (length text ≤ line_len text → feeds text ≡ 0) → length (c ∷ text) ≤ len_by feed text → cond feed 1 0 + feeds text ≡ 0
+no_feeds_by true c text rest h = absurd (omega arith)
+no_feeds_by false c text rest h = omega (arith, rest (omega arith))
+
+pub feeds-none : (text : List ℕ) → length text ≤ line_len text → feeds text ≡ 0
+feeds-none [] h = refl
+feeds-none (c ∷ text) h = no_feeds_by (c == 10) c text (feeds-none text) h
+
+pub physical_lines-none : (text : List ℕ) → length text ≤ line_len text → 0 < length text → physical_lines text ≡ text ∷ []
+physical_lines-none [] h some = absurd (omega arith)
+physical_lines-none (c ∷ text) h some = lines_behind-none [] (c ∷ text) h
+
+-- the last byte of a line
+pub without_return-push : (line : List ℕ) (c : ℕ) → without_return (line ++ c ∷ []) ≡ line ++ last_byte (c == 13) c
+without_return-push [] c = refl
+without_return-push (b ∷ []) c = refl
+without_return-push (b ∷ d ∷ line) c = ap (λ l. b ∷ l) (without_return-push (d ∷ line) c)
+
+-- line feeds of two parts
+pub feeds-append : (a b : List ℕ) → feeds (a ++ b) ≡ feeds a + feeds b
+feeds-append [] b = omega arith
+feeds-append (c ∷ a) b = omega (arith, feeds-append a b)
+
+feed_bound : (b : Bool) (n k : ℕ) → n ≤ k → cond b 1 0 + n ≤ suc k
+feed_bound true n k h = omega arith
+feed_bound false n k h = omega arith
+
+pub feeds_bound : (text : List ℕ) → feeds text ≤ length text
+feeds_bound [] = omega arith
+feeds_bound (c ∷ text) = feed_bound (c == 10) (feeds text) (length text) (feeds_bound text)

@@ -1,15 +1,14 @@
 -- No decimal text, and no front of a word, goes on with a parenthesis.
-use Rattle.std.proofs.Common.{ℤ, ◌⊎◌, nat_le, append_assoc, ◌≡◌, ◌==◌, ◌+◌, ◌&&◌, ◌||◌, not, Bool, true, false, nat_eq, ℕ, suc, Err, Some, None, List, [], ◌∷◌, ◌++◌, length, take, drop, ⊎_elim, arith, refl, sym, ap, ◌∙◌, subst}
+use Rattle.std.proofs.Common.{ℤ, ◌⊎◌, nat_le, append_assoc, ◌≡◌, ◌==◌, ◌+◌, ◌&&◌, ◌||◌, not, Bool, true, false, nat_eq, ℕ, suc, None, List, [], ◌∷◌, ◌++◌, length, drop, ⊎_elim, arith, refl, sym, ap, ◌∙◌, subst}
 use Rattle.std.specs.Char.{is_ascii_digit}
 use Rattle.std.specs.List.{list_all, list_any, starts_with, AllPass}
 use Rattle.std.proofs.lemmas.Bool.{eqb-true, eqb-false, ne_eqb}
 use Rattle.std.proofs.lemmas.List.{length-append}
 use Rattle.std.proofs.lemmas.List.Folds.{list_all-append}
 use Rattle.input_text.specs.Names.{is_id, is_id_byte}
-use Rattle.fx_num.specs.Decimal.{Decimal, IsDecimalText, IsSign, IsPoint, IsExponent, WritesExponent, read_number}
-use Rattle.fx_num.specs.declared.decimal.NumError.TheVariants.{NotNumber}
+use Rattle.fx_num.specs.Decimal.{Decimal, IsDecimalText, IsSign, IsPoint, IsExponent}
 use Rattle.fx_num.proofs.DecimalLemmas.{not_number-no_form}
-use Rattle.formula.specs.Numbers.{literal_of, literal_from, is_there, is_number_front}
+use Rattle.formula.specs.Numbers.{literal_of, literal_from, is_number_front}
 use Rattle.formula.specs.Words.{words, keywords, has_name_mark, is_word_front}
 
 -- another byte than c

@@ -1,12 +1,9 @@
 -- Every state that can be reached goes on to some formula.
-use Rattle.std.proofs.Common.{◌⊎◌, ◌≡◌, ◌==◌, ◌+◌, ◌<◌, ◌≤◌, ◌&&◌, ◌||◌, cond, not, nat_le, Bool, true, false, nat_eq, ℕ, zero, suc, ℤ, pos, Option, Result, Ok, Err, Some, None, List, [], ◌∷◌, ◌++◌, length, take, drop, ⊎_elim, arith, refl, sym, ap, ◌∙◌, subst, append_assoc, inl, inr}
-use Rattle.std.specs.List.{list_all, list_any, starts_with}
+use Rattle.std.proofs.Common.{◌⊎◌, ◌≡◌, ◌==◌, ◌+◌, ◌||◌, nat_le, Bool, true, false, ℕ, zero, suc, ℤ, pos, Option, Ok, Some, None, List, [], ◌∷◌, ◌++◌, ⊎_elim, arith, refl, ap, ◌∙◌, inl, inr}
 use Rattle.std.specs.Option.{is_some}
-use Rattle.std.specs.Str.{bytes_eq}
 use Rattle.std.proofs.lemmas.Bool.{eqb-true, le-leb}
 use Rattle.fx_num.specs.Decimal.{read_number, decimal_of, decimal_units}
 use Rattle.fx_num.specs.Rounding.{nearest_of}
-use Rattle.input_text.specs.Names.{is_id}
 use Rattle.formula.specs.declared.tree.Expr.{Expr}
 use Rattle.formula.specs.declared.tree.Expr.TheVariants as expr
 use Rattle.formula.specs.declared.tree.Operator.{Operator}
@@ -17,10 +14,10 @@ use Rattle.formula.specs.declared.state.Frame.{Frame}
 use Rattle.formula.specs.declared.state.Frame.TheVariants.{Group, Call, Signed, Left}
 use Rattle.formula.specs.declared.state.State.{State}
 use Rattle.formula.specs.declared.state.State.TheVariants.{Needs, Called, Has, Number, Word, Half}
-use Rattle.formula.specs.Words.{words, keywords, function_of, has_name_mark, is_operand_name, is_word_front}
+use Rattle.formula.specs.Words.{function_of, is_operand_name, is_word_front}
 use Rattle.formula.specs.Numbers.{literal_of, is_there, is_number_front}
 use Rattle.formula.specs.Reading.{level_of, begins_pair, pair_of, with_operator, run, step}
-use Rattle.formula.proofs.CloseLemmas.{number_closed, word_closed, word_opened, first_true, second_true}
+use Rattle.formula.proofs.CloseLemmas.{number_closed, word_closed, word_opened}
 
 -- some text leads from a state at a place to a formula
 pub record Completes (at : ℕ) (s : State) : Type 0 where
@@ -94,6 +91,7 @@ number_completes at frames place text front = now (literal_of text) refl
         let more : is_there (literal_of (text ++ 48 ∷ [])) ≡ true = ap is_there e in
         let goes : is_number_front (text ++ 48 ∷ []) ≡ true = rw more refl in
         steps_to at 48 (Number frames place text) (Number frames place (text ++ 48 ∷ [])) (rw goes refl) (number_closes (at + 1) frames place (text ++ 48 ∷ []) units e)
+
     now : (o : Option (Option ℤ)) → literal_of text ≡ o → Completes at (Number frames place text)
     now (Some units) e = number_closes at frames place text units e
     now None e = later (literal_of (text ++ 48 ∷ [])) refl (rw e at front)
@@ -125,14 +123,19 @@ half_completes at frames e place first begins = last (either ((first == 60) || (
   where
     with : (n c : ℕ) (o : Operator) → pair_of n c ≡ Some o → (first == n) ≡ true → Completes at (Half frames e place first)
     with n c o pair same = pair_completes at frames e place first c o (ap (λ (x : ℕ). pair_of x c) (eqb-true first n same) ∙ pair)
+
     second : ((first == 60) ≡ true) ⊎ ((first == 62) ≡ true) → Completes at (Half frames e place first)
     second c = ⊎_elim (λ same. with 60 61 LessEqual refl same) (λ same. with 62 61 GreaterEqual refl same) c
+
     third : (((first == 60) || (first == 62)) ≡ true) ⊎ ((first == 61) ≡ true) → Completes at (Half frames e place first)
     third c = ⊎_elim (λ more. second (either (first == 60) (first == 62) more)) (λ same. with 61 61 Equal refl same) c
+
     fourth : (((first == 60) || (first == 62) || (first == 61)) ≡ true) ⊎ ((first == 33) ≡ true) → Completes at (Half frames e place first)
     fourth c = ⊎_elim (λ more. third (either ((first == 60) || (first == 62)) (first == 61) more)) (λ same. with 33 61 NotEqual refl same) c
+
     fifth : (((first == 60) || (first == 62) || (first == 61) || (first == 33)) ≡ true) ⊎ ((first == 38) ≡ true) → Completes at (Half frames e place first)
     fifth c = ⊎_elim (λ more. fourth (either ((first == 60) || (first == 62) || (first == 61)) (first == 33) more)) (λ same. with 38 38 And refl same) c
+
     last : (((first == 60) || (first == 62) || (first == 61) || (first == 33) || (first == 38)) ≡ true) ⊎ ((first == 124) ≡ true) → Completes at (Half frames e place first)
     last c = ⊎_elim (λ more. fifth (either ((first == 60) || (first == 62) || (first == 61) || (first == 33)) (first == 38) more)) (λ same. with 124 124 Or refl same) c
 
@@ -161,6 +164,7 @@ whole_completes at frames place word is = named (is_operand_name word) refl
     called : (o : Option Function) → function_of word ≡ o → is_operand_name word ≡ false → is_some o ≡ true → Completes at (Word frames place word)
     called None e other some = absurd (cc)
     called (Some f) e other some = function_completes at frames place word f other e
+
     named : (b : Bool) → is_operand_name word ≡ b → Completes at (Word frames place word)
     named true e = name_completes at frames place word e
     named false e = called (function_of word) refl e (rw e at is)

@@ -1,5 +1,5 @@
 -- A product that is out of range stays so.
-use Rattle.std.proofs.Common.{◌≡◌, ◌≤◌, ℕ, zero, suc, ℤ, Err, arith, ap, sym, ◌∙◌, ⊎_elim}
+use Rattle.std.proofs.Common.{◌≡◌, ◌≤◌, ℕ, zero, suc, ℤ, Err, arith, ap, ◌∙◌, ⊎_elim}
 use Rattle.std.proofs.lemmas.Bool.{cases_lt}
 use Rattle.formula.specs.declared.arithmetic.Failure.{Failure}
 use Rattle.formula.specs.Arithmetic.{power_of, times}

@@ -1,5 +1,5 @@
 -- The place at which a text is refused: what stands before it begins a formula, and with it no formula goes on.
-use Rattle.std.proofs.Common.{◌⊎◌, ⊎_elim, ◌-◌, ◌≡◌, ◌==◌, ◌+◌, ◌<◌, ◌≤◌, ◌&&◌, ◌||◌, cond, nat_le, Bool, true, false, ℕ, zero, suc, Option, Result, Ok, Err, Some, None, List, [], ◌∷◌, ◌++◌, length, take, arith, refl, sym, ap, ◌∙◌, subst}
+use Rattle.std.proofs.Common.{⊎_elim, ◌-◌, ◌≡◌, ◌==◌, ◌+◌, ◌<◌, ◌≤◌, cond, nat_le, Bool, true, false, ℕ, zero, suc, Option, Ok, Err, Some, None, List, [], ◌∷◌, ◌++◌, length, take, arith, refl, sym, ap, ◌∙◌, subst}
 use Rattle.formula.specs.declared.tree.Expr.{Expr}
 use Rattle.formula.specs.declared.tree.Operator.{Operator}
 use Rattle.formula.specs.declared.tree.Sign.{Sign}
@@ -15,7 +15,7 @@ use Rattle.fx_num.specs.Decimal.{read_number, decimal_of, decimal_units}
 use Rattle.fx_num.specs.Rounding.{nearest_of}
 use Rattle.formula.specs.Numbers.{is_number_front, begins_number}
 use Rattle.formula.specs.Fronts.{reading, Begins}
-use Rattle.formula.specs.Reading.{begins_pair, run, step, go_on, ok_or, finish, close, joined, signed, sign_of, is_blank, is_behind_power, after_need, after_call, after_operand, operated, operator_of, outside, second, pair_of, single_of, number_end, word_end}
+use Rattle.formula.specs.Reading.{begins_pair, run, step, ok_or, finish, close, joined, signed, sign_of, is_blank, is_behind_power, after_need, after_call, after_operand, operated, operator_of, outside, second, pair_of, single_of, number_end, word_end}
 use Rattle.formula.proofs.FrontLemmas.{Completes, need_completes, call_completes, has_completes, number_completes, half_completes}
 use Rattle.formula.proofs.CloseLemmas.{first_true, second_true}
 use Rattle.formula.proofs.WordFronts.{word_completes, either}
@@ -70,6 +70,7 @@ number_front c begins = ⊎_elim digit point (either (is_ascii_digit c) (c == 46
   where
     point : (c == 46) ≡ true → is_number_front (c ∷ []) ≡ true
     point same = ap (λ (x : ℕ). is_number_front (x ∷ [])) (eqb-true c 46 same) ∙ point_front
+
     digit : is_ascii_digit c ≡ true → is_number_front (c ∷ []) ≡ true
     digit is =
         let low : 48 ≤ c = leb-true 48 c (first_true (nat_le 48 c) (nat_le c 57) is) in
@@ -146,26 +147,29 @@ pub record Refused (at : ℕ) (s : State) (text : List ℕ) (p : ℕ) : Type 0 w
 
 one_more : (at c : ℕ) (s t : State) (text : List ℕ) (p k : ℕ) → step at c s ≡ Some t → IsFirst (at + 1) t text p k → IsFirst at s (c ∷ text) p (suc k)
 one_more at c s t text p k goes f = record {
-    place = omega (arith, f.place);
-    within = omega (arith, f.within);
-    rest = f.rest;
-    tree = f.tree;
-    begins = rw goes f.begins;
-    ends = λ below more other reads. f.ends (omega arith) more other (rw goes at reads);
+  place = omega (arith, f.place);
+  within = omega (arith, f.within);
+  rest = f.rest;
+  tree = f.tree;
+  begins = rw goes f.begins;
+  ends = λ below more other reads. f.ends (omega arith) more other (rw goes at reads);
 }
 
 pub refused : (text : List ℕ) (at : ℕ) (s : State) (p : ℕ) → Sound s → run at text s ≡ Err p → Refused at s text p
 refused [] at s p sound fails =
     let done = completes at s sound in
     let here : p ≡ at = place_of at p (finish s) fails in
-    record { count = 0; is_first = record {
+    record {
+      count = 0;
+      is_first = record {
         place = omega arith;
         within = omega arith;
         rest = done.rest;
         tree = done.tree;
         begins = done.is_read;
         ends = λ below more other reads. absurd (omega arith);
-    } }
+      };
+    }
 refused (c ∷ text) at s p sound fails = by_step (step at c s) refl (refused text (at + 1))
   where
     by_step : (o : Option State) → step at c s ≡ o → ((t : State) (q : ℕ) → Sound t → run (at + 1) text t ≡ Err q → Refused (at + 1) t text q) → Refused at s (c ∷ text) p
@@ -173,14 +177,17 @@ refused (c ∷ text) at s p sound fails = by_step (step at c s) refl (refused te
         let done = completes at s sound in
         let err : Err at ≡ Err p = rw e at fails in
         let here : p ≡ at = place_of at p None err in
-        record { count = 0; is_first = record {
+        record {
+          count = 0;
+          is_first = record {
             place = omega arith;
             within = omega arith;
             rest = done.rest;
             tree = done.tree;
             begins = done.is_read;
             ends = λ below more other reads. (let no : Err at ≡ Ok other = rw e at reads in absurd (cc));
-        } }
+          };
+        }
     by_step (Some t) e again =
         let r = again t p (stays_sound at c s t e) (rw e at fails) in
         record { count = suc r.count; is_first = one_more at c s t text p r.count e r.is_first }

@@ -1,13 +1,12 @@
 -- Every front of a word goes on to a word.
-use Rattle.std.proofs.Common.{append-nil, ◌⊎◌, ◌≡◌, ◌==◌, ◌+◌, ◌&&◌, ◌||◌, not, Bool, true, false, nat_eq, ℕ, zero, suc, List, [], ◌∷◌, ◌++◌, length, take, drop, ⊎_elim, arith, refl, sym, ap, ◌∙◌, subst, append_assoc, inl, inr}
+use Rattle.std.proofs.Common.{append-nil, ◌⊎◌, ◌≡◌, ◌==◌, ◌+◌, ◌&&◌, ◌||◌, not, Bool, true, false, nat_eq, ℕ, List, [], ◌∷◌, ◌++◌, length, drop, ⊎_elim, arith, refl, sym, ap, ◌∙◌, subst, append_assoc, inl, inr}
 use Rattle.std.specs.List.{list_all, list_any, starts_with}
-use Rattle.std.specs.Option.{is_some}
 use Rattle.std.specs.Str.{bytes_eq}
 use Rattle.std.proofs.lemmas.Bool.{eqb-true, eq-eqb}
 use Rattle.input_text.specs.Names.{is_id}
 use Rattle.formula.specs.declared.state.Frame.{Frame}
 use Rattle.formula.specs.declared.state.State.TheVariants.{Word}
-use Rattle.formula.specs.Words.{words, keywords, function_of, has_name_mark, is_operand_name, is_word_front}
+use Rattle.formula.specs.Words.{words, keywords, has_name_mark, is_operand_name, is_word_front}
 use Rattle.formula.proofs.CloseLemmas.{first_true, second_true}
 use Rattle.formula.proofs.FrontLemmas.{Completes, steps_to, whole_completes, whole_word}
 
@@ -43,6 +42,7 @@ found test (w ∷ list) some = by_test (test w) refl (found test list)
   where
     rest : Found test list → Found test (w ∷ list)
     rest f = record { word = f.word; among = λ t all. f.among t (second_true (t w) (list_all t list) all); passes = f.passes }
+
     by_test : (b : Bool) → test w ≡ b → (list_any test list ≡ true → Found test list) → Found test (w ∷ list)
     by_test true e behind = record { word = w; among = λ t all. first_true (t w) (list_all t list) all; passes = e }
     by_test false e behind = rest (behind (rw e at some))
@@ -118,6 +118,7 @@ word_completes at frames place word front =
         let f = found (λ w. starts_with nat_eq w word) words some in
         let s = split_front f.word word f.passes in
         listed_completes at frames place s.tail word (subst (Among words) s.is_word f.among)
+
     named : (has_name_mark word && ((length word == 2) || is_id (drop 2 word))) ≡ true → Completes at (Word frames place word)
     named both =
         let mark = first_true (has_name_mark word) ((length word == 2) || is_id (drop 2 word)) both in

@@ -1,5 +1,5 @@
 -- A search through the list of words, one by one.
-use Rattle.std.proofs.Common.{◌≡◌, ◌+◌, ◌<◌, ◌||◌, Bool, true, false, ℕ, suc, List, [], ◌∷◌, length, drop, get_or, arith, refl, sym, ap, ◌∙◌, add-one, drop-cons}
+use Rattle.std.proofs.Common.{◌≡◌, ◌+◌, ◌<◌, ◌||◌, Bool, true, false, ℕ, suc, List, [], length, drop, get_or, refl, sym, ap, ◌∙◌, add-one, drop-cons}
 use Rattle.std.specs.List.{list_any}
 use Rattle.formula.specs.Words.{words, keywords}
 

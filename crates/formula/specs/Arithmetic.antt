@@ -1,5 +1,5 @@
 -- The operations of formulas, on whole numbers of units of 2^-24. A result of magnitude above 2^62 units is out of range.
-use Rattle.std.specs.Prelude.{◌≡◌, ◌+◌, ◌*◌, ◌/◌, ◌%◌, ◌^◌, ◌==◌, ◌&&◌, ◌||◌, cond, not, nat_le, nat_lt, Bool, true, false, ℕ, zero, suc, ℤ, pos, negsuc, neg_ℤ, ◌+ℤ◌, ◌-ℤ◌, ◌*ℤ◌, int_lt, int_rem, unsigned_abs, Result, Ok, Err}
+use Rattle.std.specs.Prelude.{◌+◌, ◌*◌, ◌/◌, ◌%◌, ◌^◌, ◌==◌, ◌&&◌, ◌||◌, cond, not, nat_le, Bool, true, false, ℕ, zero, suc, ℤ, pos, negsuc, neg_ℤ, ◌+ℤ◌, ◌-ℤ◌, ◌*ℤ◌, int_lt, int_rem, unsigned_abs, Result, Ok, Err}
 use Rattle.std.specs.Ordering.{int_eq}
 use Rattle.fx_num.specs.Rounding.{div_rounded, shr_rounded}
 use Rattle.fx_num.specs.Roots.{sqrt_of}

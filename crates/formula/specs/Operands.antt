@@ -1,5 +1,5 @@
 -- The operands of a formula that have names, from left to right.
-use Rattle.std.specs.Prelude.{◌+◌, ℕ, ℤ, Option, List, [], ◌∷◌, ◌++◌}
+use Rattle.std.specs.Prelude.{◌+◌, ℕ, List, [], ◌∷◌, ◌++◌}
 use Rattle.formula.specs.declared.tree.Expr.{Expr}
 use Rattle.formula.specs.declared.tree.Expr.TheOpen.{Expr-F}
 use Rattle.formula.specs.declared.tree.Expr.TheFolds.{fold-Expr}

@@ -1,8 +1,8 @@
 -- How a formula's text is read: byte by byte, with what is open at each place. No byte is refused with which the text so far begins a formula.
-use Rattle.std.specs.Prelude.{◌≡◌, ◌+◌, ◌==◌, ◌||◌, ◌&&◌, cond, nat_le, Bool, true, false, ℕ, ℤ, Option, Some, None, Result, Ok, Err, List, [], ◌∷◌, ◌++◌, length}
+use Rattle.std.specs.Prelude.{◌≡◌, ◌+◌, ◌==◌, ◌||◌, ◌&&◌, cond, nat_le, Bool, false, ℕ, ℤ, Option, Some, None, Result, Ok, Err, List, [], ◌∷◌, ◌++◌, length}
 use Rattle.box_geo.specs.declared.limits.TheConstants.{MAX_FORMULA_BYTES}
 use Rattle.fx_num.specs.declared.faults.FormulaFault.{FormulaFault}
-use Rattle.fx_num.specs.declared.faults.FormulaFault.TheVariants.{Syntax, Unknown, NotNumber, DivideByZero, Range, TooDeep, NoMemory}
+use Rattle.fx_num.specs.declared.faults.FormulaFault.TheVariants.{Syntax, NoMemory}
 use Rattle.formula.specs.declared.tree.Expr.{Expr}
 use Rattle.formula.specs.declared.tree.Expr.TheVariants as expr
 use Rattle.formula.specs.declared.tree.Operator.{Operator}

@@ -2,6 +2,7 @@
 use Rattle.std.specs.Prelude.{◌≡◌, ◌+◌, cond, nat_lt, ℕ, ℤ, Option, Some, None, Result, Ok, Err, List, [], ◌∷◌}
 use denote.Bor.{Bor}
 use Rattle.box_geo.specs.declared.limits.TheConstants.{MAX_FORMULA_DEPTH}
+use Rattle.formula.specs.declared.tree.Operator.{Operator}
 use Rattle.formula.specs.declared.tree.Expr.{Expr}
 use Rattle.formula.specs.declared.tree.Expr.TheOpen.{Expr-F}
 use Rattle.formula.specs.declared.tree.Expr.TheFolds.{fold-Expr}
@@ -48,6 +49,10 @@ abbrev pub and_then : Outcome → (ℤ → List ℤ → Outcome) → Outcome
 and_then (Err fault) next = Err fault
 and_then (Ok r) next = next r.0 r.1
 
+-- an operator between a value and what its right side gives
+abbrev pub operated : ℕ → Operator → ℤ → Outcome → Outcome
+operated place o a right = and_then right (λ b rest. value_at place rest (operation o a b))
+
 -- a node, by what its parts give; the left operand comes first
 abbrev pub value_step : Expr-F Meaning → Meaning
 value_step (Expr-F.Number place units) depth values = literal_value place units values
@@ -56,7 +61,7 @@ value_step (Expr-F.Group inner) depth values = inside inner depth values
 value_step (Expr-F.Call place f inner) depth values = and_then (inside inner depth values) (λ v rest. value_at place rest (function_value f v))
 value_step (Expr-F.Signed s inner) depth values = and_then (inner depth values) (λ v rest. Ok (with_sign_of s v, rest))
 value_step (Expr-F.Binary place o left right) depth values =
-    and_then (left depth values) (λ a rest. and_then (right depth rest) (λ b left_over. value_at place left_over (operation o a b)))
+    and_then (left depth values) (λ a rest. operated place o a (right depth rest))
 
 -- the value of a formula, with the operands that are left
 abbrev pub value : Expr → Meaning

@@ -1,5 +1,5 @@
 -- The words of formulas: keywords, names of functions, and names of variables and computes.
-use Rattle.std.specs.Prelude.{◌==◌, ◌||◌, ◌&&◌, cond, Bool, nat_eq, ℕ, Option, Some, None, List, [], ◌∷◌, ◌++◌, length, drop, codes}
+use Rattle.std.specs.Prelude.{◌==◌, ◌||◌, ◌&&◌, cond, Bool, nat_eq, ℕ, Option, Some, None, List, [], ◌∷◌, length, drop, codes}
 use Rattle.std.specs.List.{list_any, starts_with}
 use Rattle.std.specs.Str.{bytes_eq}
 use Rattle.input_text.specs.Names.{is_id}

@@ -12,9 +12,6 @@ use fx_num::{FormulaFault, NoMemory, Text};
 use sqlite_items::Boxed;
 use std::alloc::Global;
 
-/// How tightly a sign binds.
-const SIGN_LEVEL: u8 = 7;
-
 /// How tightly an operator binds.
 fn level_of(operator: Operator) -> u8
     ensures { result ≡ level_of operator }
@@ -35,6 +32,16 @@ fn level_of(operator: Operator) -> u8
         Operator::Remainder => 6,
         Operator::Power => 8,
     }
+}
+
+/// How tightly a sign binds: less than `^`, more than all else.
+const SIGN_LEVEL: u8 = 7;
+
+/// How tightly a sign binds.
+fn sign_level() -> u8
+    ensures { result ≡ sign_level }
+{
+    SIGN_LEVEL
 }
 
 /// The operator of one byte that begins no other.
@@ -114,7 +121,7 @@ fn joined(
 {
     while let Some(frame) = frames.pop() {
         match frame {
-            Frame::Signed(sign) if level <= SIGN_LEVEL => {
+            Frame::Signed(sign) if level <= sign_level() => {
                 operand = Expr::Signed(sign, Boxed::new(alloc, operand)?);
             }
             Frame::Left(at, operator, left) if level <= level_of(operator) => {

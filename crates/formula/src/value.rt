@@ -1,9 +1,9 @@
 //! The value of a formula.
 ghost use Rattle.std.specs.Prelude.{◌≡◌, ◌^◌, ◌≤◌, ℕ, pos, unsigned_abs, IfOk, MatchResult, Ok, Err};
-ghost use Rattle.formula.specs.Value.{fault_at, value_at, literal_value, operand_value, value, value_of, HasValue};
+ghost use Rattle.formula.specs.Value.{Outcome, fault_at, value_at, literal_value, operand_value, operated, value, value_of, HasValue};
 
 use crate::arithmetic::{Failure, function_value, limited, operation, with_sign_of};
-use crate::tree::Expr;
+use crate::tree::{Expr, Operator};
 use box_geo::limits::MAX_FORMULA_DEPTH;
 
 /// Why a formula has no value: the first fault, the operands from left to right.
@@ -73,6 +73,24 @@ fn operand_value(place: u32, values: &[i128]) -> Result<(i64, &[i128]), EvalFaul
     }
 }
 
+/// An operator between a value and what its right side gives, whose fault comes first, also for `&&` and `||`.
+fn combined<'a>(
+    place: u32,
+    operator: Operator,
+    left: i64,
+    right: Result<(i64, &'a [i128]), EvalFault>,
+) -> Result<(i64, &'a [i128]), EvalFault>
+    requires left { unsigned_abs left ≤ 2 ^ 62 }
+    requires right { IfOk right (λ r. unsigned_abs r.0 ≤ 2 ^ 62) }
+    ensures is { (meant : Outcome) → HasValue right.entry meant → HasValue result (operated place operator left meant) }
+    ensures bound { IfOk result (λ r. unsigned_abs r.0 ≤ 2 ^ 62) }
+{
+    match right {
+        Ok((b, rest)) => value_at(place, rest, operation(operator, left, b)),
+        Err(fault) => Err(fault),
+    }
+}
+
 /// The value of a formula at a depth, with the operands that are left.
 fn value<'a>(tree: &Expr, depth: u32, values: &'a [i128]) -> Result<(i64, &'a [i128]), EvalFault>
     ensures is { HasValue result (value tree.now depth values.now) }
@@ -100,8 +118,7 @@ fn value<'a>(tree: &Expr, depth: u32, values: &'a [i128]) -> Result<(i64, &'a [i
         }
         Expr::Binary(place, operator, left, right) => {
             let (a, rest) = value(left.get(), depth, values)?;
-            let (b, rest) = value(right.get(), depth, rest)?;
-            value_at(*place, rest, operation(*operator, a, b))
+            combined(*place, *operator, a, value(right.get(), depth, rest))
         }
     }
 }

@@ -13,6 +13,8 @@ mod fixes;
 #[cfg(test)]
 mod formulas;
 #[cfg(test)]
+mod neighbours;
+#[cfg(test)]
 mod numbers;
 #[cfg(test)]
 mod outsides;

@@ -1,0 +1,5 @@
+pub mod Around
+pub mod Bins
+pub mod Cells
+pub mod Near
+pub mod Sorting

@@ -1,0 +1,9 @@
+//! Laws of half lists: that none lacks a pair while no atom has moved more than half the skin, and
+//! that their rows are the near pairs, each once. Empty functions, whose clauses are the laws.
+#![tactic(auto)]
+
+mod pairs;
+mod skin;
+
+pub use pairs::{rows_are_the_near_pairs, rows_of_sites_are_rows_of_atoms};
+pub use skin::no_pair_is_missed_within_half_the_skin;

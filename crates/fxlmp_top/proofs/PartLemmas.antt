@@ -1,5 +1,5 @@
 -- What the parts of a run are good for: the table, the field and the system keep to the ranges that a run asks for, and make the run of the serial meaning.
-use Rattle.std.proofs.Common.{◌≡◌, ◌⊎◌, ⊎_elim, inl, inr, ◌^◌, ◌-◌, ◌≤◌, ℕ, ℤ, pos, ◌+ℤ◌, ◌≤ℤ◌, unsigned_abs, FitsSigned, to_z, of_z, Option, Some, None, IfSome, IsSomeAnd, Result, List, [], ◌∷◌, All, refl, sym, ap, subst, ◌∙◌, arith}
+use Rattle.std.proofs.Common.{◌≡◌, ◌⊎◌, ⊎_elim, inl, inr, ◌^◌, ◌-◌, ◌≤◌, ℕ, ℤ, pos, ◌+ℤ◌, ◌≤ℤ◌, unsigned_abs, FitsSigned, to_z, of_z, Option, Some, None, IfSome, IsSomeAnd, Result, Ok, List, [], ◌∷◌, All, refl, sym, ap, subst, ◌∙◌, arith}
 use Rattle.std.specs.Int.{w64}
 use Rattle.std.specs.Option.{option_map}
 use Rattle.std.proofs.lemmas.Int.{ints, fits_signed_from_abs, to_z-of_z}
@@ -10,11 +10,13 @@ use Rattle.box_geo.specs.declared.sim_box.Axis.{Axis}
 use Rattle.box_geo.specs.declared.sim_box.Sides.{Sides}
 use Rattle.fix_list.specs.Fixes.{moves}
 use Rattle.nve_data.specs.declared.«data».Data.{Data}
-use Rattle.nve_data.specs.Data.{IsSoundAtom, IsSoundData, zeros}
+use Rattle.nve_data.specs.Data.{Contents, IsSoundAtom, IsSoundData, zeros}
 use Rattle.nve_run.specs.declared.run.RunEnd.{RunEnd}
 use Rattle.nve_run.specs.Ends.{EndsTold}
 use Rattle.nve_run.specs.Run.{Told, told_of}
+use Rattle.nve_run.specs.Work.{pairs_if_room, pairs_of}
 use Rattle.nve_run.proofs.FieldLemmas.{told_of-alike}
+use Rattle.nve_run.proofs.WorkLemmas.{pairs_of-alike}
 use Rattle.nve_script.specs.declared.script.Coefficients.{Coefficients}
 use Rattle.nve_script.specs.declared.script.Script.{Script}
 use Rattle.outside.specs.declared.press.Piece.{Piece}
@@ -32,7 +34,7 @@ use Rattle.step_engine.specs.Engine.{rules_of, setting_of as engine_setting}
 use Rattle.step_engine.specs.Ranges.{AreAtoms, HasMass, IsForceField, IsMovable, IsPlaced, IsWithin}
 use Rattle.fxlmp_top.specs.declared.parts.Parts.{Parts}
 use Rattle.fxlmp_top.specs.Parts.{ArePartsOf, IsFieldOf, IsTableOf, contents_in}
-use Rattle.fxlmp_top.specs.Serial.{field_of as serial_field, fixes_of, ids_of, numbers_of, plan_of, setting_of as serial_setting}
+use Rattle.fxlmp_top.specs.Serial.{field_of as serial_field, fixes_of, ids_of, numbers_of, plan_of, run_data, run_in, setting_of as serial_setting}
 
 -- the coefficients that were set
 abbrev pub AreSet : Coefficients → Option Found → Type 0
@@ -177,3 +179,36 @@ ends_same s d p skin sound are same old new end h =
     let room : Option Axis = edge_too_small d.cell.sides (s.coefficients.cutoff +ℤ s.settings.skin) in
     subst (λ (told : Told). EndsTold room told old end new) (told_same s d p skin sound are same)
     (subst (λ (small : Option Axis). EndsTold small engine old end new) (room_same s d p skin are same) h)
+
+-- and it sums as many terms of pairs
+pairs_same : (s : Script) (d : Data) (p : Parts) (skin : ℤ) → IsSoundData d → ArePartsOf s d p → skin ≡ s.settings.skin
+    → pairs_of (engine_setting (rules_of p.system p.field skin) p.fixes) (s.steps - p.system.step) p.system.step p.system.atoms ≡ pairs_of (serial_setting s (contents_in d)) s.steps 0 d.atoms
+pairs_same s d p skin sound are same =
+    let t : Setting = serial_setting s (contents_in d) in
+    let g : Field = field_of p.field.pairs in
+    let setting = setting_same s d p skin are same in
+    let left : s.steps - p.system.step ≡ s.steps = omega (arith, are.system.step) in
+    let step = are.system.step in
+    let atoms = are.system.atoms in
+    let first : pairs_of (engine_setting (rules_of p.system p.field skin) p.fixes) (s.steps - p.system.step) p.system.step p.system.atoms ≡ pairs_of (with_field t g) s.steps 0 d.atoms = cc in
+    first ∙ sym (pairs_of-alike t g (alike s.coefficients p.field.pairs are.field.table) s.steps 0 d.atoms (ones d sound))
+
+pairs_in : (name : List ℕ) (s : Script) (c : Contents) (small : Option Axis) → (run_in name s c small).pairs ≡ pairs_if_room small (pairs_of (serial_setting s c) s.steps 0 c.atoms)
+pairs_in name s c None = refl
+pairs_in name s c (Some axis) = refl
+
+pub work_same : (name : List ℕ) (s : Script) (d : Data) (p : Parts) (skin : ℤ) → IsSoundData d → ArePartsOf s d p → skin ≡ s.settings.skin
+    → pairs_if_room (edge_too_small p.system.cell.sides (p.field.rcmax +ℤ skin)) (pairs_of (engine_setting (rules_of p.system p.field skin) p.fixes) (s.steps - p.system.step) p.system.step p.system.atoms)
+    ≡ (run_data name s (Ok (contents_in d))).pairs
+work_same name s d p skin sound are same =
+    let engine : ℕ = pairs_of (engine_setting (rules_of p.system p.field skin) p.fixes) (s.steps - p.system.step) p.system.step p.system.atoms in
+    let small : Option Axis = edge_too_small d.cell.sides (s.coefficients.cutoff +ℤ s.settings.skin) in
+    ap (λ (room : Option Axis). pairs_if_room room engine) (room_same s d p skin are same)
+    ∙ ap (λ (n : ℕ). pairs_if_room small n) (pairs_same s d p skin sound are same)
+    ∙ sym (pairs_in name s (contents_in d) small)
+
+-- whatever the name of the script
+pub any_name : (name other : List ℕ) (s : Script) (c : Contents) → (run_data name s (Ok c)).pairs ≡ (run_data other s (Ok c)).pairs
+any_name name other s c =
+    let small : Option Axis = edge_too_small c.sides (s.coefficients.cutoff +ℤ s.settings.skin) in
+    pairs_in name s c small ∙ sym (pairs_in other s c small)

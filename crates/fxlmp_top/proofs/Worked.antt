@@ -19,6 +19,7 @@ use Rattle.input_text.specs.Readers.{here}
 use Rattle.nve_script.specs.Script.{coefficients, head, script, settings}
 use Rattle.nve_data.specs.Data.{atoms_given, count, data_file, header, mass, position_row, positions_section, sides, title, velocities_given, velocity_row}
 use Rattle.nve_run.specs.Run.{told_from, told_of}
+use Rattle.nve_run.specs.Work.{pairs_from, pairs_of}
 use Rattle.serial_step.specs.Forces.{forces_fault, force_on, pair_energy, pair_virial, term_of, terms_fault, with_forces}
 use Rattle.serial_step.specs.Rebuild.{neighbour_pairs, renews}
 use Rattle.serial_step.specs.Room.{edge_too_small}
@@ -57,8 +58,9 @@ at_two : serial (at (codes "4") (codes "6")) words ≡ record {
       ++ log_text false (codes "         0           0.00000000          -0.03076172           0.00000000          -0.03076172          -0.00012112\n")
       ++ log_text false (codes "Neighbor pairs 1 builds 0\n");
   status = Done;
+  pairs = 1;
 }
-unfolding script_text sides_text two_atoms files at words serial script head here coefficients settings data_file header count sides title mass atoms_given positions_section position_row words_of is_input_name read_number read_count decimal_of decimal_units nearest_of div_rounded edge_too_small told_of set_up with_forces force_on forces_fault terms_fault term_of pair_energy pair_virial near_image pair_term weighted_term force_along energy_at strength twelfth_power sixth_power inverse_square header_line told_from neighbour_pairs fix_text volume_of kinetic_sum temperature kinetic_share energy_share pressure header_text line_text footer_text digits
+unfolding script_text sides_text two_atoms files at words serial script head here coefficients settings data_file header count sides title mass atoms_given positions_section position_row words_of is_input_name read_number read_count decimal_of decimal_units nearest_of div_rounded edge_too_small told_of pairs_of set_up with_forces force_on forces_fault terms_fault term_of pair_energy pair_virial near_image pair_term weighted_term force_along energy_at strength twelfth_power sixth_power inverse_square header_line told_from pairs_from neighbour_pairs fix_text volume_of kinetic_sum temperature kinetic_share energy_share pressure header_text line_text footer_text digits
 at_two = refl
 
 -- at distance 1
@@ -68,8 +70,9 @@ at_one : serial (at (codes "4") (codes "5")) words ≡ record {
       ++ log_text false (codes "         0           0.00000000           0.00000000           0.00000000           0.00000000           0.00800002\n")
       ++ log_text false (codes "Neighbor pairs 1 builds 0\n");
   status = Done;
+  pairs = 1;
 }
-unfolding script_text sides_text two_atoms files at words serial script head here coefficients settings data_file header count sides title mass atoms_given positions_section position_row words_of is_input_name read_number read_count decimal_of decimal_units nearest_of div_rounded edge_too_small told_of set_up with_forces force_on forces_fault terms_fault term_of pair_energy pair_virial near_image pair_term weighted_term force_along energy_at strength twelfth_power sixth_power inverse_square header_line told_from neighbour_pairs fix_text volume_of kinetic_sum temperature kinetic_share energy_share pressure header_text line_text footer_text digits
+unfolding script_text sides_text two_atoms files at words serial script head here coefficients settings data_file header count sides title mass atoms_given positions_section position_row words_of is_input_name read_number read_count decimal_of decimal_units nearest_of div_rounded edge_too_small told_of pairs_of set_up with_forces force_on forces_fault terms_fault term_of pair_energy pair_virial near_image pair_term weighted_term force_along energy_at strength twelfth_power sixth_power inverse_square header_line told_from pairs_from neighbour_pairs fix_text volume_of kinetic_sum temperature kinetic_share energy_share pressure header_text line_text footer_text digits
 at_one = refl
 
 -- at the cutoff
@@ -79,22 +82,25 @@ at_cutoff : serial (at (codes "3") (codes "5.5")) words ≡ record {
       ++ log_text false (codes "         0           0.00000000           0.00000000           0.00000000           0.00000000           0.00000000\n")
       ++ log_text false (codes "Neighbor pairs 1 builds 0\n");
   status = Done;
+  pairs = 1;
 }
-unfolding script_text sides_text two_atoms files at words serial script head here coefficients settings data_file header count sides title mass atoms_given positions_section position_row words_of is_input_name read_number read_count decimal_of decimal_units nearest_of div_rounded edge_too_small told_of set_up with_forces force_on forces_fault terms_fault term_of pair_energy pair_virial near_image pair_term weighted_term force_along energy_at strength twelfth_power sixth_power inverse_square header_line told_from neighbour_pairs fix_text volume_of kinetic_sum temperature kinetic_share energy_share pressure header_text line_text footer_text digits
+unfolding script_text sides_text two_atoms files at words serial script head here coefficients settings data_file header count sides title mass atoms_given positions_section position_row words_of is_input_name read_number read_count decimal_of decimal_units nearest_of div_rounded edge_too_small told_of pairs_of set_up with_forces force_on forces_fault terms_fault term_of pair_energy pair_virial near_image pair_term weighted_term force_along energy_at strength twelfth_power sixth_power inverse_square header_line told_from pairs_from neighbour_pairs fix_text volume_of kinetic_sum temperature kinetic_share energy_share pressure header_text line_text footer_text digits
 at_cutoff = refl
 
 -- too close
 too_close : serial (at (codes "5") (codes "5.2")) words ≡ record {
   pieces = log_text true (codes "ERROR: Close 1 2 in forces at step 0\n");
   status = RangeFault record { phase = 2; kind = 1; a = 1; b = 2 } 0;
+  pairs = 1;
 }
-unfolding script_text sides_text two_atoms files at words serial script head here coefficients settings data_file header count sides title mass atoms_given positions_section position_row words_of is_input_name read_number read_count decimal_of decimal_units nearest_of div_rounded edge_too_small told_of set_up with_forces force_on forces_fault terms_fault term_of pair_energy pair_virial near_image pair_term weighted_term force_along energy_at strength twelfth_power sixth_power inverse_square fault_text digits
+unfolding script_text sides_text two_atoms files at words serial script head here coefficients settings data_file header count sides title mass atoms_given positions_section position_row words_of is_input_name read_number read_count decimal_of decimal_units nearest_of div_rounded edge_too_small told_of pairs_of set_up with_forces force_on forces_fault terms_fault term_of pair_energy pair_virial near_image pair_term weighted_term force_along energy_at strength twelfth_power sixth_power inverse_square fault_text digits
 too_close = refl
 
 -- no script
 no_file : serial (at (codes "4") (codes "6")) (codes "-in" ∷ codes "nofile" ∷ []) ≡ record {
   pieces = log_text true (codes "ERROR: NoFile at nofile:0\n");
   status = ScriptRefused NoFile (codes "nofile") 0;
+  pairs = 0;
 }
 unfolding script_text sides_text two_atoms files at serial is_input_name refusal_text digits
 no_file = refl
@@ -103,12 +109,13 @@ no_file = refl
 small_box : serial (files (codes "run 0\n") (two_atoms (codes "5.59999996") (codes "1") (codes "3"))) words ≡ record {
   pieces = log_text true (codes "ERROR: EdgeTooSmall at s.in:6\n");
   status = ScriptRefused EdgeTooSmall (codes "s.in") 6;
+  pairs = 0;
 }
 unfolding script_text sides_text two_atoms files at words serial script head here coefficients settings data_file header count sides title mass atoms_given positions_section position_row words_of is_input_name read_number read_count decimal_of decimal_units nearest_of div_rounded edge_too_small refusal_text digits
 small_box = refl
 
 wide_box : (serial (files (codes "run 0\n") (two_atoms (codes "5.6") (codes "1") (codes "3"))) words).status ≡ Done
-unfolding script_text sides_text two_atoms files at words serial script head here coefficients settings data_file header count sides title mass atoms_given positions_section position_row words_of is_input_name read_number read_count decimal_of decimal_units nearest_of div_rounded edge_too_small told_of set_up with_forces force_on forces_fault terms_fault term_of pair_energy pair_virial near_image pair_term weighted_term force_along energy_at strength twelfth_power sixth_power inverse_square told_from
+unfolding script_text sides_text two_atoms files at words serial script head here coefficients settings data_file header count sides title mass atoms_given positions_section position_row words_of is_input_name read_number read_count decimal_of decimal_units nearest_of div_rounded edge_too_small told_of pairs_of set_up with_forces force_on forces_fault terms_fault term_of pair_energy pair_virial near_image pair_term weighted_term force_along energy_at strength twelfth_power sixth_power inverse_square told_from pairs_from
 wide_box = refl
 
 -- one atom near the side of the box, with velocity 1
@@ -123,8 +130,9 @@ wraps : serial (files (codes "timestep 0.5\nfix 1 all nve\nrun 1\n") one_atom) w
       ++ log_text false (codes "         1           0.00000000           0.00000000           0.00000000           0.50000000           0.00033331\n")
       ++ log_text false (codes "Neighbor pairs 0 builds 1\n");
   status = Done;
+  pairs = 0;
 }
-unfolding one_atom script_text sides_text two_atoms files at words serial script head here coefficients settings data_file header count sides title mass atoms_given positions_section position_row words_of is_input_name read_number read_count decimal_of decimal_units nearest_of div_rounded edge_too_small told_of set_up with_forces force_on forces_fault terms_fault term_of pair_energy pair_virial near_image pair_term weighted_term force_along energy_at strength twelfth_power sixth_power inverse_square header_line told_from neighbour_pairs fix_text volume_of kinetic_sum temperature kinetic_share energy_share pressure header_text line_text footer_text digits velocities_given velocity_row serial_step drifted kicked_again wrap renews
+unfolding one_atom script_text sides_text two_atoms files at words serial script head here coefficients settings data_file header count sides title mass atoms_given positions_section position_row words_of is_input_name read_number read_count decimal_of decimal_units nearest_of div_rounded edge_too_small told_of pairs_of set_up with_forces force_on forces_fault terms_fault term_of pair_energy pair_virial near_image pair_term weighted_term force_along energy_at strength twelfth_power sixth_power inverse_square header_line told_from pairs_from neighbour_pairs fix_text volume_of kinetic_sum temperature kinetic_share energy_share pressure header_text line_text footer_text digits velocities_given velocity_row serial_step drifted kicked_again wrap renews
 wraps = refl
 
 -- with fixed boundaries it is lost
@@ -137,6 +145,7 @@ loses : serial (record { name = codes "s.in"; bytes = fixed_text } ∷ record { 
       ++ log_text false (codes "         0           0.00000000           0.00000000           0.00000000           0.50000000           0.00033331\n")
       ++ log_text false (codes "ERROR: Lost 1 0 in drift at step 1\n");
   status = RangeFault record { phase = 1; kind = 6; a = 1; b = 0 } 1;
+  pairs = 0;
 }
-unfolding one_atom fixed_text script_text sides_text two_atoms files at words serial script head here coefficients settings data_file header count sides title mass atoms_given positions_section position_row words_of is_input_name read_number read_count decimal_of decimal_units nearest_of div_rounded edge_too_small told_of set_up with_forces force_on forces_fault terms_fault term_of pair_energy pair_virial near_image pair_term weighted_term force_along energy_at strength twelfth_power sixth_power inverse_square header_line told_from neighbour_pairs fix_text volume_of kinetic_sum temperature kinetic_share energy_share pressure header_text line_text footer_text digits velocities_given velocity_row serial_step drifted kicked_again wrap renews fault_text
+unfolding one_atom fixed_text script_text sides_text two_atoms files at words serial script head here coefficients settings data_file header count sides title mass atoms_given positions_section position_row words_of is_input_name read_number read_count decimal_of decimal_units nearest_of div_rounded edge_too_small told_of pairs_of set_up with_forces force_on forces_fault terms_fault term_of pair_energy pair_virial near_image pair_term weighted_term force_along energy_at strength twelfth_power sixth_power inverse_square header_line told_from pairs_from neighbour_pairs fix_text volume_of kinetic_sum temperature kinetic_share energy_share pressure header_text line_text footer_text digits velocities_given velocity_row serial_step drifted kicked_again wrap renews fault_text
 loses = refl

@@ -11,6 +11,7 @@ use Rattle.log_output.specs.Log.{log_text, log_texts}
 use Rattle.nve_data.specs.Data.{Contents, contents_of}
 use Rattle.nve_run.specs.declared.plan.Plan.{Plan}
 use Rattle.nve_run.specs.Run.{End, Told, completed, failed, told_of}
+use Rattle.nve_run.specs.Work.{pairs_of}
 use Rattle.nve_script.specs.declared.script.Coefficients.{Coefficients}
 use Rattle.nve_script.specs.declared.script.Script.{Script}
 use Rattle.nve_script.specs.Script.{script_of}
@@ -27,14 +28,15 @@ use Rattle.fxlmp_top.specs.declared.status.Status.{Status}
 use Rattle.fxlmp_top.specs.declared.status.Status.TheVariants.{Done, NotBuilt, RangeFault, ScriptRefused, Usage}
 use Rattle.fxlmp_top.specs.Words.{script_name}
 
--- what a run of the program writes, and how it ends
+-- what a run of the program writes, how it ends, and how many terms of pairs it sums
 pub record Run : Type 0 where
   pub pieces : List Piece
   pub status : Status
+  pub pairs : ℕ
 
 -- nothing is written, and the run ends so
 abbrev pub ends_at_once : Status → Run
-ends_at_once status = record { pieces = []; status = status }
+ends_at_once status = record { pieces = []; status = status; pairs = 0 }
 
 -- the line of a refusal, and the run that it ends: nothing was written before
 abbrev pub code_name : Code → List ℕ
@@ -46,7 +48,7 @@ unfoldable pub refusal_text : Code → List ℕ → ℕ → List ℕ
 refusal_text code file line = codes "ERROR: " ++ code_name code ++ codes " at " ++ file ++ codes ":" ++ decimal line ++ codes "\n"
 
 abbrev pub refused : Code → List ℕ → ℕ → Run
-refused code file line = record { pieces = log_text true (refusal_text code file line); status = ScriptRefused code file line }
+refused code file line = record { pieces = log_text true (refusal_text code file line); status = ScriptRefused code file line; pairs = 0 }
 
 -- a fetched file: its bytes, or none, or more than may be fetched
 pub data Fetched : Type 0 where
@@ -93,12 +95,12 @@ abbrev pub status_of : End → Status
 status_of completed = Done
 status_of (failed key step) = RangeFault key step
 
-abbrev pub run_told : Told → Run
-run_told told = record { pieces = log_texts true told.texts; status = status_of told.end }
+abbrev pub run_told : Told → ℕ → Run
+run_told told pairs = record { pieces = log_texts true told.texts; status = status_of told.end; pairs = pairs }
 
 abbrev pub run_in : List ℕ → Script → Contents → Option Axis → Run
 run_in name s c (Some axis) = refused EdgeTooSmall name s.run_line
-run_in name s c None = run_told (told_of (setting_of s c) (plan_of s) s.steps 0 c.atoms)
+run_in name s c None = run_told (told_of (setting_of s c) (plan_of s) s.steps 0 c.atoms) (pairs_of (setting_of s c) s.steps 0 c.atoms)
 
 abbrev pub run_data : List ℕ → Script → Result Contents ℕ → Run
 run_data name s (Ok c) = run_in name s c (edge_too_small c.sides (s.coefficients.cutoff +ℤ s.settings.skin))

@@ -37,6 +37,7 @@ pub(crate) fn fetch<S: Shelf>(
     ensures long { limit ≡ MAX_FETCHED → IsErrOf result Miss.TooLong → IfNone (S.stock shelf.old) (Rose (S.absent shelf.old) (S.absent shelf.new)) }
     ensures read { IsErrOf result Miss.ReadFault → Rose (S.faults shelf.old) (S.faults shelf.new) }
     ensures faults_kept { S.faults shelf.old ≤ S.faults shelf.new }
+    ensures faults_stay { (IsErrOf result Miss.ReadFault → ⊥) → S.faults shelf.new ≡ S.faults shelf.old }
     ensures absent_kept { S.absent shelf.old ≤ S.absent shelf.new }
 {
     match shelf.fetch(alloc, name) {

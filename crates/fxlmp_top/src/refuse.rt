@@ -49,9 +49,11 @@ pub(crate) fn refuse<P: Press>(
     ensures ends { EndsAs result (P.sent press.old) (refused code file.now line) (P.sent press.new) }
     ensures write { result ≡ Status.WriteFault → Rose (P.faults press.old) (P.faults press.new) }
     ensures kept { P.faults press.old ≤ P.faults press.new }
+    ensures stay { (result ≡ Status.WriteFault → ⊥) → P.faults press.new ≡ P.faults press.old }
     ensures code { (why : Code) (name : List ℕ) (place : ℕ) → result ≡ Status.ScriptRefused why name place → why ≡ code }
     ensures at { (why : Code) (name : List ℕ) (place : ℕ) → result ≡ Status.ScriptRefused why name place → place ≡ line }
     ensures no_usage { (place : ℕ) → result ≡ Status.Usage place → ⊥ }
+    ensures no_end { result ≡ Status.Done → ⊥ }
     ensures no_read { result ≡ Status.ReadFault → ⊥ }
     ensures no_unbuilt { (name : List ℕ) (place : ℕ) → result ≡ Status.NotBuilt name place → ⊥ }
 {
@@ -75,6 +77,7 @@ pub(crate) fn not_built(alloc: Global, file: &Text, line: u32) -> Status
     ensures ends { (sent : Option (List Piece)) → EndsAs result sent (ends_at_once (Status.NotBuilt file.now line)) sent }
     ensures no_write { result ≡ Status.WriteFault → ⊥ }
     ensures no_usage { (place : ℕ) → result ≡ Status.Usage place → ⊥ }
+    ensures no_end { result ≡ Status.Done → ⊥ }
     ensures no_read { result ≡ Status.ReadFault → ⊥ }
     ensures no_refusal { (why : Code) (name : List ℕ) (place : ℕ) → result ≡ Status.ScriptRefused why name place → ⊥ }
 {

@@ -1,5 +1,5 @@
 //! A run of a script over its data, and how it ends.
-ghost use Rattle.std.specs.Prelude.{◌≡◌, ◌≤◌, ◌+ℤ◌, ℕ, List, Ok, IsErrOf};
+ghost use Rattle.std.specs.Prelude.{◌≡◌, ◌≤◌, ◌+◌, ◌+ℤ◌, ℕ, List, [], Ok, OnOk, IsErrOf};
 ghost use Rattle.nve_data.specs.Data.{IsSoundData};
 ghost use Rattle.nve_run.specs.Ends.{EndsTold};
 ghost use Rattle.nve_run.specs.Run.{told_of};
@@ -35,6 +35,9 @@ fn make_run<P: Press, L: Ledger>(
     ensures ends { EndsTold (edge_too_small input.cell.sides (script.now.coefficients.cutoff +ℤ script.now.settings.skin)) (told_of (setting_of script.now (contents_in input)) (plan_of script.now) script.now.steps 0 input.atoms) (P.sent press.old) result (P.sent press.new) }
     ensures write { IsErrOf result RunEnd.WriteFault → Rose (P.faults press.old) (P.faults press.new) }
     ensures kept { P.faults press.old ≤ P.faults press.new }
+    ensures stay { (IsErrOf result RunEnd.WriteFault → ⊥) → P.faults press.new ≡ P.faults press.old }
+    ensures few_steps { steps.new ≤ steps.old + (run_data [] script.now (Ok (contents_in input))).pairs }
+    ensures steps { OnOk result (steps.new ≡ steps.old + (run_data [] script.now (Ok (contents_in input))).pairs) }
 {
     let parts = match parts_of(alloc, script, input) {
         Ok(parts) => parts,
@@ -71,6 +74,9 @@ pub(crate) fn run_data<P: Press, L: Ledger>(
     ensures ends { EndsAs result (P.sent press.old) (run_data name.now script.now (Ok (contents_in input))) (P.sent press.new) }
     ensures write { result ≡ Status.WriteFault → Rose (P.faults press.old) (P.faults press.new) }
     ensures kept { P.faults press.old ≤ P.faults press.new }
+    ensures stay { (result ≡ Status.WriteFault → ⊥) → P.faults press.new ≡ P.faults press.old }
+    ensures few_steps { steps.new ≤ steps.old + (run_data name.now script.now (Ok (contents_in input))).pairs }
+    ensures steps { result ≡ Status.Done → steps.new ≡ steps.old + (run_data name.now script.now (Ok (contents_in input))).pairs }
     ensures no_usage { (place : ℕ) → result ≡ Status.Usage place → ⊥ }
     ensures no_read { result ≡ Status.ReadFault → ⊥ }
     ensures no_absence { (file : List ℕ) (line : ℕ) → result ≡ Status.ScriptRefused Code.NoFile file line → ⊥ }

@@ -1,5 +1,5 @@
 //! The top call.
-ghost use Rattle.std.specs.Prelude.{◌≡◌, ◌<◌, ◌≤◌, ◌↔◌, ℕ, List, Some, Ok, Err, IfNone};
+ghost use Rattle.std.specs.Prelude.{◌≡◌, ◌<◌, ◌≤◌, ◌↔◌, ◌+◌, ℕ, List, Some, Ok, Err, IfNone};
 ghost use Rattle.outside.specs.Stock.{content, Rose};
 ghost use Rattle.outside.specs.declared.files.File.{File};
 ghost use Rattle.nve_script.specs.Script.{IsSoundScript};
@@ -28,11 +28,13 @@ fn missed<P: Press>(alloc: Global, press: &mut P, miss: Miss, name: &Text, line:
     ensures ends { EndsMissed miss name.now line (P.sent press.old) result (P.sent press.new) }
     ensures write { result ≡ Status.WriteFault → Rose (P.faults press.old) (P.faults press.new) }
     ensures kept { P.faults press.old ≤ P.faults press.new }
+    ensures stay { (result ≡ Status.WriteFault → ⊥) → P.faults press.new ≡ P.faults press.old }
     ensures read { result ≡ Status.ReadFault → miss ≡ Miss.ReadFault }
     ensures absent { (file : List ℕ) (place : ℕ) → result ≡ Status.ScriptRefused Code.NoFile file place → miss ≡ Miss.Missing }
     ensures long { (file : List ℕ) (place : ℕ) → result ≡ Status.ScriptRefused Code.FileTooLong file place → (miss ≡ Miss.TooLong) × (place ≡ line) }
     ensures no_usage { (place : ℕ) → result ≡ Status.Usage place → ⊥ }
     ensures no_unbuilt { (file : List ℕ) (place : ℕ) → result ≡ Status.NotBuilt file place → ⊥ }
+    ensures no_end { result ≡ Status.Done → ⊥ }
 {
     match miss {
         Miss::Missing => refuse(alloc, press, Code::NoFile, name, line),
@@ -53,6 +55,8 @@ fn run_script<S: Shelf, P: Press, L: Ledger>(
 ) -> Status
     requires { IsSoundScript script.now }
     ensures ends { (files : List File) → S.stock shelf.old ≡ Some files → EndsAs result (P.sent press.old) (run_input name.now script.now (fetched MAX_FETCHED (content files script.now.head.input))) (P.sent press.new) }
+    ensures few_steps { (files : List File) → S.stock shelf.old ≡ Some files → steps.new ≤ steps.old + (run_input name.now script.now (fetched MAX_FETCHED (content files script.now.head.input))).pairs }
+    ensures steps { (files : List File) → S.stock shelf.old ≡ Some files → result ≡ Status.Done → steps.new ≡ steps.old + (run_input name.now script.now (fetched MAX_FETCHED (content files script.now.head.input))).pairs }
     ensures read { result ≡ Status.ReadFault → Rose (S.faults shelf.old) (S.faults shelf.new) }
     ensures absent { (file : List ℕ) (line : ℕ) → result ≡ Status.ScriptRefused Code.NoFile file line → IfNone (S.stock shelf.old) (Rose (S.absent shelf.old) (S.absent shelf.new)) }
     ensures long { (file : List ℕ) (line : ℕ) → result ≡ Status.ScriptRefused Code.FileTooLong file line → IfNone (S.stock shelf.old) (Rose (S.absent shelf.old) (S.absent shelf.new)) }
@@ -61,8 +65,10 @@ fn run_script<S: Shelf, P: Press, L: Ledger>(
     ensures no_usage { (place : ℕ) → result ≡ Status.Usage place → ⊥ }
     ensures stays { S.stock shelf.new ≡ S.stock shelf.old }
     ensures faults_kept { S.faults shelf.old ≤ S.faults shelf.new }
+    ensures faults_stay { (result ≡ Status.ReadFault → ⊥) → S.faults shelf.new ≡ S.faults shelf.old }
     ensures absent_kept { S.absent shelf.old ≤ S.absent shelf.new }
     ensures write_kept { P.faults press.old ≤ P.faults press.new }
+    ensures write_stay { (result ≡ Status.WriteFault → ⊥) → P.faults press.new ≡ P.faults press.old }
 {
     let text = match fetch(alloc, shelf, &script.head.input, MAX_FETCHED) {
         Ok(text) => text,
@@ -84,6 +90,8 @@ fn run_named<S: Shelf, P: Press, L: Ledger>(
     steps: &mut Steps<L>,
 ) -> Status
     ensures ends { (files : List File) → S.stock shelf.old ≡ Some files → EndsAs result (P.sent press.old) (run_text files name.now (fetched MAX_SCRIPT_BYTES (content files name.now))) (P.sent press.new) }
+    ensures few_steps { (files : List File) → S.stock shelf.old ≡ Some files → steps.new ≤ steps.old + (run_text files name.now (fetched MAX_SCRIPT_BYTES (content files name.now))).pairs }
+    ensures steps { (files : List File) → S.stock shelf.old ≡ Some files → result ≡ Status.Done → steps.new ≡ steps.old + (run_text files name.now (fetched MAX_SCRIPT_BYTES (content files name.now))).pairs }
     ensures read { result ≡ Status.ReadFault → Rose (S.faults shelf.old) (S.faults shelf.new) }
     ensures absent { (file : List ℕ) (line : ℕ) → result ≡ Status.ScriptRefused Code.NoFile file line → IfNone (S.stock shelf.old) (Rose (S.absent shelf.old) (S.absent shelf.new)) }
     ensures long { (file : List ℕ) (line : ℕ) → result ≡ Status.ScriptRefused Code.FileTooLong file line → 0 < line → IfNone (S.stock shelf.old) (Rose (S.absent shelf.old) (S.absent shelf.new)) }
@@ -92,8 +100,10 @@ fn run_named<S: Shelf, P: Press, L: Ledger>(
     ensures no_usage { (place : ℕ) → result ≡ Status.Usage place → ⊥ }
     ensures stays { S.stock shelf.new ≡ S.stock shelf.old }
     ensures faults_kept { S.faults shelf.old ≤ S.faults shelf.new }
+    ensures faults_stay { (result ≡ Status.ReadFault → ⊥) → S.faults shelf.new ≡ S.faults shelf.old }
     ensures absent_kept { S.absent shelf.old ≤ S.absent shelf.new }
     ensures write_kept { P.faults press.old ≤ P.faults press.new }
+    ensures write_stay { (result ≡ Status.WriteFault → ⊥) → P.faults press.new ≡ P.faults press.old }
 {
     let text = match fetch(alloc, shelf, name, MAX_SCRIPT_BYTES as u64) {
         Ok(text) => text,
@@ -116,6 +126,8 @@ fn run<S: Shelf, P: Press, L: Ledger>(
     steps: &mut Steps<L>,
 ) -> Status
     ensures ends { (files : List File) → S.stock shelf.old ≡ Some files → EndsAs result (P.sent press.old) (serial files words.now) (P.sent press.new) }
+    ensures few_steps { (files : List File) → S.stock shelf.old ≡ Some files → steps.new ≤ steps.old + (serial files words.now).pairs }
+    ensures steps { (files : List File) → S.stock shelf.old ≡ Some files → result ≡ Status.Done → steps.new ≡ steps.old + (serial files words.now).pairs }
     ensures read { result ≡ Status.ReadFault → Rose (S.faults shelf.old) (S.faults shelf.new) }
     ensures absent { (file : List ℕ) (line : ℕ) → result ≡ Status.ScriptRefused Code.NoFile file line → IfNone (S.stock shelf.old) (Rose (S.absent shelf.old) (S.absent shelf.new)) }
     ensures long { (file : List ℕ) (line : ℕ) → result ≡ Status.ScriptRefused Code.FileTooLong file line → 0 < line → IfNone (S.stock shelf.old) (Rose (S.absent shelf.old) (S.absent shelf.new)) }
@@ -125,8 +137,10 @@ fn run<S: Shelf, P: Press, L: Ledger>(
     ensures untouched { (place : ℕ) → script_name words.now ≡ Err place → (P.sent press.new ≡ P.sent press.old) × (P.faults press.new ≡ P.faults press.old) × (S.faults shelf.new ≡ S.faults shelf.old) × (S.absent shelf.new ≡ S.absent shelf.old) }
     ensures stays { S.stock shelf.new ≡ S.stock shelf.old }
     ensures read_kept { S.faults shelf.old ≤ S.faults shelf.new }
+    ensures read_stay { (result ≡ Status.ReadFault → ⊥) → S.faults shelf.new ≡ S.faults shelf.old }
     ensures absent_kept { S.absent shelf.old ≤ S.absent shelf.new }
     ensures write_kept { P.faults press.old ≤ P.faults press.new }
+    ensures write_stay { (result ≡ Status.WriteFault → ⊥) → P.faults press.new ≡ P.faults press.old }
 {
     match script_name(words) {
         Ok(name) => run_named(alloc, name, shelf, press, steps),
@@ -152,6 +166,11 @@ pub fn run_words<S: Shelf, P: Press, L: Ledger>(
     ensures serial_status { (files : List File) → S.stock shelf.old ≡ Some files → IsSerialStatus result (serial files words.now) }
     ensures serial_pieces { (files : List File) → S.stock shelf.old ≡ Some files → SendsAll result (P.sent press.old) (serial files words.now) (P.sent press.new) }
 
+    // How many terms of pairs are summed: at most as many as the serial meaning sums, and exactly so
+    // many in a run to its end.
+    ensures few_steps { (files : List File) → S.stock shelf.old ≡ Some files → steps.new ≤ steps.old + (serial files words.now).pairs }
+    ensures steps { (files : List File) → S.stock shelf.old ≡ Some files → result ≡ Status.Done → steps.new ≡ steps.old + (serial files words.now).pairs }
+
     // What a fault or want of memory leaves, and when a fault may be answered.
     ensures prefix { (files : List File) → S.stock shelf.old ≡ Some files → SendsPart result (P.sent press.old) (serial files words.now) (P.sent press.new) }
     ensures read_fault { result ≡ Status.ReadFault → Rose (S.faults shelf.old) (S.faults shelf.new) }
@@ -174,8 +193,10 @@ pub fn run_words<S: Shelf, P: Press, L: Ledger>(
 
     ensures stock_stays { S.stock shelf.new ≡ S.stock shelf.old }
     ensures read_kept { S.faults shelf.old ≤ S.faults shelf.new }
+    ensures read_stay { (result ≡ Status.ReadFault → ⊥) → S.faults shelf.new ≡ S.faults shelf.old }
     ensures absent_kept { S.absent shelf.old ≤ S.absent shelf.new }
     ensures write_kept { P.faults press.old ≤ P.faults press.new }
+    ensures write_stay { (result ≡ Status.WriteFault → ⊥) → P.faults press.new ≡ P.faults press.old }
 {
     run(alloc, words, shelf, press, steps)
 }

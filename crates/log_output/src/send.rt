@@ -32,6 +32,7 @@ fn put_named<P: Press>(
     ensures sends { Sends (P.sent press.old) (piece_of name.now fresh text.now ∷ []) result (P.sent press.new) }
     ensures write { IsErrOf result Stop.WriteFault → Rose (P.faults press.old) (P.faults press.new) }
     ensures kept { P.faults press.old ≤ P.faults press.new }
+    ensures stay { (IsErrOf result Stop.WriteFault → ⊥) → P.faults press.new ≡ P.faults press.old }
 {
     match Text::from_bytes(alloc, name) {
         Ok(name) => match press.put(alloc, &name, fresh, text.as_bytes()) {
@@ -54,6 +55,7 @@ pub fn put_log<P: Press>(alloc: Global, press: &mut P, fresh: bool, text: &Text)
     ensures sends { Sends (P.sent press.old) (log_text fresh text.now) result (P.sent press.new) }
     ensures write { IsErrOf result Stop.WriteFault → Rose (P.faults press.old) (P.faults press.new) }
     ensures kept { P.faults press.old ≤ P.faults press.new }
+    ensures stay { (IsErrOf result Stop.WriteFault → ⊥) → P.faults press.new ≡ P.faults press.old }
 {
     match put_named(alloc, press, LOG, fresh, text) {
         Ok(()) => {}

@@ -4,3 +4,4 @@ pub mod NumberLemmas
 pub mod PartLemmas
 pub mod RunLemmas
 pub mod StepLemmas
+pub mod WorkLemmas

@@ -33,6 +33,7 @@ pub(crate) fn put_first<P: Press>(
     ensures sends { Sends (P.sent press.old) (log_texts true (header_text style_one ∷ line_now engine.now tally.now ∷ [])) result (P.sent press.new) }
     ensures write { IsErrOf result Stop.WriteFault → Rose (P.faults press.old) (P.faults press.new) }
     ensures kept { P.faults press.old ≤ P.faults press.new }
+    ensures stay { (IsErrOf result Stop.WriteFault → ⊥) → P.faults press.new ≡ P.faults press.old }
 {
     match put_header(alloc, columns, press) {
         Ok(()) => {}
@@ -56,6 +57,7 @@ pub(crate) fn put_due<P: Press>(
     ensures sends { Sends (P.sent press.old) (log_texts false (due_texts (is_due plan.now step) (line_now engine.now tally.now))) result (P.sent press.new) }
     ensures write { IsErrOf result Stop.WriteFault → Rose (P.faults press.old) (P.faults press.new) }
     ensures kept { P.faults press.old ≤ P.faults press.new }
+    ensures stay { (IsErrOf result Stop.WriteFault → ⊥) → P.faults press.new ≡ P.faults press.old }
 {
     if !plan.is_due(step) {
         return Ok(());
@@ -69,6 +71,7 @@ fn put_header<P: Press>(alloc: Global, columns: &Columns, press: &mut P) -> Resu
     ensures sends { Sends (P.sent press.old) (log_text true (header_text style_one)) result (P.sent press.new) }
     ensures write { IsErrOf result Stop.WriteFault → Rose (P.faults press.old) (P.faults press.new) }
     ensures kept { P.faults press.old ≤ P.faults press.new }
+    ensures stay { (IsErrOf result Stop.WriteFault → ⊥) → P.faults press.new ≡ P.faults press.old }
 {
     match header(alloc, columns) {
         Ok(header) => put_log(alloc, press, true, &header),
@@ -89,6 +92,7 @@ fn put_line<P: Press>(
     ensures sends { Sends (P.sent press.old) (log_text false (line_now engine.now tally.now)) result (P.sent press.new) }
     ensures write { IsErrOf result Stop.WriteFault → Rose (P.faults press.old) (P.faults press.new) }
     ensures kept { P.faults press.old ≤ P.faults press.new }
+    ensures stay { (IsErrOf result Stop.WriteFault → ⊥) → P.faults press.new ≡ P.faults press.old }
 {
     match thermo_line(alloc, columns, engine, tally) {
         Ok(line) => put_log(alloc, press, false, &line),
@@ -122,6 +126,7 @@ pub(crate) fn put_footer<P: Press>(
     ensures sends { Sends (P.sent press.old) (log_text false (footer_now engine.now)) result (P.sent press.new) }
     ensures write { IsErrOf result Stop.WriteFault → Rose (P.faults press.old) (P.faults press.new) }
     ensures kept { P.faults press.old ≤ P.faults press.new }
+    ensures stay { (IsErrOf result Stop.WriteFault → ⊥) → P.faults press.new ≡ P.faults press.old }
 {
     let (pairs, builds) = engine.counts();
     match footer(alloc, pairs, builds) {
@@ -141,6 +146,7 @@ pub(crate) fn put_fault<P: Press>(
     ensures sends { Sends (P.sent press.old) (log_text fresh (fault_text key.now step)) result (P.sent press.new) }
     ensures write { IsErrOf result Stop.WriteFault → Rose (P.faults press.old) (P.faults press.new) }
     ensures kept { P.faults press.old ≤ P.faults press.new }
+    ensures stay { (IsErrOf result Stop.WriteFault → ⊥) → P.faults press.new ≡ P.faults press.old }
 {
     match fault_text(alloc, key, step) {
         Ok(text) => put_log(alloc, press, fresh, &text),

@@ -1,5 +1,5 @@
 //! A run, from its set-up to its footer.
-ghost use Rattle.std.specs.Prelude.{◌≡◌, ◌+◌, ◌-◌, ◌<◌, ◌≤◌, ◌+ℤ◌, ◌==◌, true, false, [], ◌∷◌, OnOk, IsErrOf};
+ghost use Rattle.std.specs.Prelude.{◌≡◌, ◌+◌, ◌-◌, ◌<◌, ◌≤◌, ◌+ℤ◌, ◌==◌, true, false, [], ◌∷◌, length, OnOk, IsErrOf};
 ghost use Rattle.box_geo.specs.Fault.{no_fault};
 ghost use Rattle.log_output.specs.Faults.{fault_text};
 ghost use Rattle.log_output.specs.Log.{Sends, log_text, log_texts};
@@ -7,13 +7,16 @@ ghost use Rattle.nve_run.specs.Ends.{EndsTold};
 ghost use Rattle.nve_run.specs.Parts.{Begins, StoppedBy, Tells, due_texts};
 ghost use Rattle.nve_run.specs.Run.{after_set_up, after_step, failed, is_due, told_from, told_of};
 ghost use Rattle.nve_run.specs.Shown.{IsShown, line_now};
+ghost use Rattle.nve_run.specs.Work.{pairs_from, pairs_if_room, pairs_of};
 ghost use Rattle.nve_run.specs.declared.plan.Plan.{Plan};
 ghost use Rattle.outside.specs.Stock.{Rose};
 ghost use Rattle.serial_step.specs.Rebuild.{positions};
 ghost use Rattle.serial_step.specs.Room.{edge_too_small};
 ghost use Rattle.serial_step.specs.Step.{serial_step, set_up};
+ghost use Rattle.serial_step.specs.Work.{step_pairs};
 ghost use Rattle.step_engine.specs.Engine.{rules_of, setting_of, system_of};
 ghost use Rattle.step_engine.specs.Ranges.{AreAtoms, AreRules, IsForceField, IsSkin, IsState, IsTimestep};
+ghost use Rattle.sums.specs.Totals.{half};
 ghost use Rattle.thermo_text.specs.Thermo.{header_text, style_one};
 
 use crate::lines::{put_due, put_fault, put_first, put_footer};
@@ -96,6 +99,9 @@ pub fn run_nve<P: Press, L: Ledger>(
     ensures ends { EndsTold (edge_too_small system.cell.sides (field.rcmax +ℤ skin)) (told_of (setting_of (rules_of system field skin) fixes.now) plan.now (plan.now.last - system.step) system.step system.atoms) (P.sent press.old) result (P.sent press.new) }
     ensures write { IsErrOf result RunEnd.WriteFault → Rose (P.faults press.old) (P.faults press.new) }
     ensures kept { P.faults press.old ≤ P.faults press.new }
+    ensures stay { (IsErrOf result RunEnd.WriteFault → ⊥) → P.faults press.new ≡ P.faults press.old }
+    ensures few_steps { steps.new ≤ steps.old + pairs_if_room (edge_too_small system.cell.sides (field.rcmax +ℤ skin)) (pairs_of (setting_of (rules_of system field skin) fixes.now) (plan.now.last - system.step) system.step system.atoms) }
+    ensures steps { OnOk result (steps.new ≡ steps.old + pairs_if_room (edge_too_small system.cell.sides (field.rcmax +ℤ skin)) (pairs_of (setting_of (rules_of system field skin) fixes.now) (plan.now.last - system.step) system.step system.atoms)) }
 {
     let step = system.step;
     match Engine::new(alloc, system, field, skin) {
@@ -125,6 +131,9 @@ fn run_engine<P: Press, L: Ledger>(
     ensures tells { Tells true (told_of (setting_of engine.old.rules fixes.now) plan.now (plan.now.last - step) step engine.old.state.atoms) (P.sent press.old) result (P.sent press.new) }
     ensures write { IsErrOf result RunEnd.WriteFault → Rose (P.faults press.old) (P.faults press.new) }
     ensures kept { P.faults press.old ≤ P.faults press.new }
+    ensures stay { (IsErrOf result RunEnd.WriteFault → ⊥) → P.faults press.new ≡ P.faults press.old }
+    ensures few_steps { steps.new ≤ steps.old + pairs_of (setting_of engine.old.rules fixes.now) (plan.now.last - step) step engine.old.state.atoms }
+    ensures steps { OnOk result (steps.new ≡ steps.old + pairs_of (setting_of engine.old.rules fixes.now) (plan.now.last - step) step engine.old.state.atoms) }
 {
     let columns = match style_one(alloc) {
         Ok(columns) => columns,
@@ -159,6 +168,9 @@ fn set_up<P: Press, L: Ledger>(
     ensures ready { OnOk result (IsState engine.new.rules engine.new.state) }
     ensures write { IsErrOf result RunEnd.WriteFault → Rose (P.faults press.old) (P.faults press.new) }
     ensures kept { P.faults press.old ≤ P.faults press.new }
+    ensures stay { (IsErrOf result RunEnd.WriteFault → ⊥) → P.faults press.new ≡ P.faults press.old }
+    ensures sound { OnOk result ((set_up (setting_of engine.old.rules fixes.now) step engine.old.state.atoms).fault ≡ no_fault) }
+    ensures steps { steps.new ≡ steps.old + length (half engine.old.state.atoms) }
 {
     let tally = match engine.forces(fixes, steps) {
         Ok(tally) => tally,
@@ -192,6 +204,9 @@ fn go_on<P: Press, L: Ledger>(
     ensures tells { Tells false (told_from (setting_of engine.old.rules fixes.now) plan.now (plan.now.last - first) engine.old.state) (P.sent press.old) result (P.sent press.new) }
     ensures write { IsErrOf result RunEnd.WriteFault → Rose (P.faults press.old) (P.faults press.new) }
     ensures kept { P.faults press.old ≤ P.faults press.new }
+    ensures stay { (IsErrOf result RunEnd.WriteFault → ⊥) → P.faults press.new ≡ P.faults press.old }
+    ensures few_steps { steps.new ≤ steps.old + pairs_from (setting_of engine.old.rules fixes.now) (plan.now.last - first) engine.old.state }
+    ensures steps { OnOk result (steps.new ≡ steps.old + pairs_from (setting_of engine.old.rules fixes.now) (plan.now.last - first) engine.old.state) }
 {
     for step in first..plan.last {
         match step_once(alloc, columns, engine, fixes, plan, step + 1, press, steps) {
@@ -227,6 +242,10 @@ fn step_once<P: Press, L: Ledger>(
     ensures ready { OnOk result (IsState engine.new.rules engine.new.state) }
     ensures write { IsErrOf result RunEnd.WriteFault → Rose (P.faults press.old) (P.faults press.new) }
     ensures kept { P.faults press.old ≤ P.faults press.new }
+    ensures stay { (IsErrOf result RunEnd.WriteFault → ⊥) → P.faults press.new ≡ P.faults press.old }
+    ensures sound { OnOk result ((serial_step (setting_of engine.old.rules fixes.now) engine.old.state).fault ≡ no_fault) }
+    ensures few_steps { steps.new ≤ steps.old + step_pairs (setting_of engine.old.rules fixes.now) engine.old.state }
+    ensures steps { OnOk result (steps.new ≡ steps.old + step_pairs (setting_of engine.old.rules fixes.now) engine.old.state) }
 {
     let tally = match engine.advance(fixes, steps) {
         Ok(tally) => tally,
@@ -244,6 +263,7 @@ fn fail<P: Press>(alloc: Global, fresh: bool, key: FaultKey, step: u64, press: &
     ensures ends { StoppedBy result (failed key step) (P.sent press.old) (log_text fresh (fault_text key step)) (P.sent press.new) }
     ensures write { result ≡ RunEnd.WriteFault → Rose (P.faults press.old) (P.faults press.new) }
     ensures kept { P.faults press.old ≤ P.faults press.new }
+    ensures stay { (result ≡ RunEnd.WriteFault → ⊥) → P.faults press.new ≡ P.faults press.old }
 {
     match put_fault(alloc, fresh, &key, step, press) {
         Ok(()) => RunEnd::Range { key, step },

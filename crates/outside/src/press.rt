@@ -50,7 +50,7 @@ impl From<NoMemory> for PutRefusal {
 /// A writer of files, piece by piece.
 ///
 /// `sent` is the pieces so far, or `None` where the press does not tell. `faults` counts its
-/// failures and never falls.
+/// failures: it never falls, and stays at any other answer.
 pub trait Press {
     ghost sent: { Self → Option (List Piece) };
 
@@ -73,7 +73,8 @@ pub trait Press {
         ensures faulted { IsErrOf result PutRefusal.Faulted → Rose (faults self.old) (faults self.new) }
         ensures cut { IsErrOf result PutRefusal.Faulted → PutsCut (sent self.old) (piece_of name.now fresh bytes.now) (sent self.new) }
         ensures no_memory { IsErrOf result PutRefusal.NoMemory → sent self.new ≡ sent self.old }
-        ensures faults_kept { faults self.old ≤ faults self.new };
+        ensures faults_kept { faults self.old ≤ faults self.new }
+        ensures faults_stay { (IsErrOf result PutRefusal.Faulted → ⊥) → faults self.new ≡ faults self.old };
 }
 
 /// Appends a copy of a piece to a list of pieces. A refusal leaves the list as it was.

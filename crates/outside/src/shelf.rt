@@ -1,5 +1,5 @@
 //! Where files are read: by name, each as a whole.
-ghost use Rattle.std.specs.Prelude.{◌≡◌, ◌<◌, ◌≤◌, Option, List, ℕ, length, IfOk, IfErr, IfSome, IfNone, IsErrOf};
+ghost use Rattle.std.specs.Prelude.{◌≡◌, ◌<◌, ◌≤◌, Option, List, ℕ, length, IfOk, IfErr, IfSome, IfNone, IsErrOf, IsErrAnd, IsTrue};
 ghost use Rattle.outside.specs.Stock.{content, is_absence, Fetches, Rose, IsAbove};
 ghost use Rattle.outside.specs.declared.files.File.{File};
 ghost use Rattle.outside.specs.declared.shelf.FetchRefusal.TheVariants.{NoMemory as no_memory};
@@ -53,7 +53,8 @@ impl From<NoMemory> for FetchRefusal {
 /// Files that can be read by their names.
 ///
 /// `stock` is what stands on the shelf, or `None` where the shelf does not tell. `faults` counts
-/// its failures, and `absent` the files that were missing or too long; the counts never fall.
+/// its failures, and `absent` the files that were missing or too long: the counts never fall, and
+/// stay at any other answer.
 pub trait Shelf {
     ghost stock: { Self → Option (List File) };
 
@@ -77,5 +78,7 @@ pub trait Shelf {
         ensures too_long { (n : ℕ) → IsErrOf result (FetchRefusal.TooLong n) → IfNone (stock self.old) (Rose (absent self.old) (absent self.new)) }
         ensures faulted { IsErrOf result FetchRefusal.Faulted → Rose (faults self.old) (faults self.new) }
         ensures faults_kept { faults self.old ≤ faults self.new }
-        ensures absent_kept { absent self.old ≤ absent self.new };
+        ensures absent_kept { absent self.old ≤ absent self.new }
+        ensures faults_stay { (IsErrOf result FetchRefusal.Faulted → ⊥) → faults self.new ≡ faults self.old }
+        ensures absent_stay { (IsErrAnd result (λ why. IsTrue (is_absence why)) → ⊥) → absent self.new ≡ absent self.old };
 }

@@ -37,6 +37,8 @@ fn run_counted<S: Shelf, P: Press, L: Ledger>(
         → (Rose (S.faults shelf.old) (S.faults shelf.new) → ⊥) → (Rose (P.faults press.old) (P.faults press.new) → ⊥)
         → IsComplete result (P.sent press.old) (serial files words.now) (P.sent press.new) }
     ensures read_fault { result ≡ Status.ReadFault → Rose (S.faults shelf.old) (S.faults shelf.new) }
+    ensures read_stay { (result ≡ Status.ReadFault → ⊥) → S.faults shelf.new ≡ S.faults shelf.old }
+    ensures write_stay { (result ≡ Status.WriteFault → ⊥) → P.faults press.new ≡ P.faults press.old }
     ensures write_fault { result ≡ Status.WriteFault → Rose (P.faults press.old) (P.faults press.new) }
     ensures usage { (place : ℕ) → (result ≡ Status.Usage place) ↔ (script_name words.now ≡ Err place) }
 {
@@ -69,6 +71,8 @@ fn answer<S: Shelf, P: Press, O: Write>(
         → (Rose (S.faults shelf.old) (S.faults shelf.new) → ⊥) → (Rose (P.faults press.old) (P.faults press.new) → ⊥)
         → IsComplete result (P.sent press.old) (serial files words.now) (P.sent press.new) }
     ensures read_fault { result ≡ Status.ReadFault → Rose (S.faults shelf.old) (S.faults shelf.new) }
+    ensures read_stay { (result ≡ Status.ReadFault → ⊥) → S.faults shelf.new ≡ S.faults shelf.old }
+    ensures write_stay { (result ≡ Status.WriteFault → ⊥) → P.faults press.new ≡ P.faults press.old }
     ensures write_fault { request_of words.now ≡ Request.Run → result ≡ Status.WriteFault → Rose (P.faults press.old) (P.faults press.new) }
     ensures usage { request_of words.now ≡ Request.Run → (place : ℕ) → (result ≡ Status.Usage place) ↔ (script_name words.now ≡ Err place) }
     ensures quiet { request_of words.now ≡ Request.Run → output.new ≡ output.old }
@@ -105,13 +109,16 @@ pub fn run_program<S: Shelf, P: Press, O: Write, E: Write>(
     errors: &mut E,
 ) -> ExitCode
     // A run: the number is that of its serial status, all its pieces sent, unless a fault or want of
-    // memory ended it. The number of a fault comes only where the count of that object rose.
+    // memory ended it. The number of a fault comes only where the count of that object rose, and the
+    // count stays at any other number.
     ensures exits { (words : List (List ℕ)) (files : List File) → read ≡ Ok words → request_of words ≡ Request.Run → S.stock shelf.old ≡ Some files
         → ExitsAs (exit_status result) (P.sent press.old) (serial files words) (P.sent press.new) }
     ensures complete { (words : List (List ℕ)) (files : List File) → read ≡ Ok words → request_of words ≡ Request.Run → S.stock shelf.old ≡ Some files
         → (Rose (S.faults shelf.old) (S.faults shelf.new) → ⊥) → (Rose (P.faults press.old) (P.faults press.new) → ⊥)
         → ExitsComplete (exit_status result) (P.sent press.old) (serial files words) (P.sent press.new) }
     ensures read_fault { exit_status result ≡ 3 → Rose (S.faults shelf.old) (S.faults shelf.new) }
+    ensures read_stay { exit_status result ≢ 3 → S.faults shelf.new ≡ S.faults shelf.old }
+    ensures write_stay { exit_status result ≢ 4 → P.faults press.new ≡ P.faults press.old }
     ensures write_fault { (words : List (List ℕ)) → read ≡ Ok words → request_of words ≡ Request.Run → exit_status result ≡ 4 → Rose (P.faults press.old) (P.faults press.new) }
 
     // A wrong command line, told from the words alone.

@@ -1,5 +1,5 @@
 -- A step depends on the field only at the types of its atoms: where all are of type 1, two fields that agree there make the same step.
-use Rattle.std.proofs.Common.{◌≡◌, ◌==◌, Bool, true, false, cond, ℕ, ℤ, Option, Result, Ok, Err, List, [], ◌∷◌, ◌++◌, map, refl, sym, ap, ◌∙◌}
+use Rattle.std.proofs.Common.{◌≡◌, ◌==◌, Bool, true, false, cond, ℕ, ℤ, Option, Result, Ok, Err, List, [], ◌∷◌, ◌++◌, map, length, refl, sym, ap, ◌∙◌}
 use Rattle.std.specs.List.{AllByRecursion}
 use Rattle.box_geo.specs.declared.atoms.Atom.{Atom}
 use Rattle.box_geo.specs.declared.sim_box.Axis.{Axis}
@@ -12,6 +12,7 @@ use Rattle.pair_lj.specs.declared.close.Close.{Close}
 use Rattle.sums.specs.Totals.{total, half}
 use Rattle.serial_step.specs.Forces.{Field, PairNumbers, close_word, energy_of, force_of, force_on, force_word, forces_fault, least, pair_energy, pair_virial, term_apart, term_of, terms_fault, virial_of, with_force, with_forces}
 use Rattle.serial_step.specs.Step.{After, Outcome, Setting, State, Sums, atoms_of, drifted, drifted_at, drifted_if, fault_of, first_fault, is_too_fast, kicked, kicked_again, kicked_if, moved, referenced, serial_step, set_up, sums_of, wrapped_atom}
+use Rattle.serial_step.specs.Work.{step_pairs}
 
 -- two fields agree at type 1, and give each pair of ids the same weight
 pub record AreAlike (f g : Field) : Type 0 where
@@ -215,3 +216,8 @@ set_up-alike t g alike step atoms ones =
     let fault = forces_fault-alike t.field g alike t.sides atoms ones in
     let forces = with_forces-alike t.field g alike t.sides atoms ones in
     cc
+
+-- the same number of terms in a step
+pub step_pairs-alike : (t : Setting) (g : Field) (state : State) → step_pairs t state ≡ step_pairs (with_field t g) state
+step_pairs-alike t g state =
+    ap (λ (list : List After). cond (fault_of list == no_fault) (length (half state.atoms)) 0) (map_same (drifted t) (drifted (with_field t g)) (drifted_same t g) state.atoms)

@@ -3,3 +3,4 @@ pub mod Pairs
 pub mod Rebuild
 pub mod Room
 pub mod Step
+pub mod Work

@@ -8,6 +8,7 @@ use Rattle.box_geo.specs.Fault.{no_fault}
 use Rattle.fix_list.specs.declared.fixes.NamedFix.{NamedFix}
 use Rattle.serial_step.specs.Forces.{field_of, forces_fault, with_forces}
 use Rattle.serial_step.specs.Step.{Setting, State, atoms_of, drifted, fault_of, first_fault, kicked_again, referenced, serial_step, sums_of}
+use Rattle.serial_step.specs.Work.{step_pairs}
 use Rattle.step_engine.specs.declared.tally.Tally.{Tally}
 use Rattle.step_engine.specs.Engine.{IsKeyOf, World, setting_of, tally_of, with_atoms}
 use Rattle.sums.specs.Totals.{half}
@@ -70,6 +71,12 @@ length-half (x ∷ xs) (y ∷ ys) e = let rest = length-half xs ys (omega arith)
 
 pub same_pairs : (fixes : List NamedFix) (w d : World) → d ≡ after_drift fixes w → length (half d.state.atoms) ≡ length (half w.state.atoms)
 same_pairs fixes w d ed = length-half d.state.atoms w.state.atoms (ap (λ (u : World). length u.state.atoms) ed ∙ grind (arith, common_steps))
+
+-- after a drift without a fault they are those that the step evaluates
+pub pairs_are : (fixes : List NamedFix) (w d : World) → d ≡ after_drift fixes w → fault_of (map (drifted (setting_of w.rules fixes)) w.state.atoms) ≡ no_fault → length (half d.state.atoms) ≡ step_pairs (setting_of w.rules fixes) w.state
+pairs_are fixes w d ed none =
+    same_pairs fixes w d ed
+    ∙ sym (ap (λ (n : ℕ). cond (n == no_fault) (length (half w.state.atoms)) 0) none)
 
 -- the key of a part's fault is that of the step
 pub key_of : (word fault : ℕ) (key other : FaultKey) → fault ≡ word → key ≡ other → IsKeyOf word other → IsKeyOf fault key

@@ -5,6 +5,7 @@ ghost use Rattle.serial_step.specs.Forces.{field_of, forces_fault, with_forces};
 ghost use Rattle.serial_step.specs.Rebuild.{positions, renews};
 ghost use Rattle.serial_step.specs.Room.{edge_too_small};
 ghost use Rattle.serial_step.specs.Step.{atoms_of, counts, drifted, fault_of, kicked_again, referenced, serial_step, sums_of};
+ghost use Rattle.serial_step.specs.Work.{step_pairs};
 ghost use Rattle.step_engine.specs.Engine.{IsKeyOf, first_state, rules_of, setting_of, system_of, tally_of, with_atoms, world_of};
 ghost use Rattle.step_engine.specs.Ranges.{AreAtoms, AreRules, IsForceField, IsSkin, IsSmall, IsState, IsTimestep};
 ghost use Rattle.sums.specs.Totals.{half};
@@ -172,8 +173,8 @@ impl Engine {
 
     /// One step: half a kick and the drift, the references, the forces, and the second half of the kick.
     /// A fault is the least key of the first of these phases that has one; the engine is then only
-    /// dropped. Memory is taken only on a step that renews the references. A step that is made counts
-    /// one for each unordered pair.
+    /// dropped. Memory is taken only on a step that renews the references. A step counts one for each
+    /// unordered pair, unless an atom is at fault before the forces.
     pub fn advance<L: Ledger>(
         &mut self,
         fixes: &FixList,
@@ -190,8 +191,8 @@ impl Engine {
         ensures range { (key : FaultKey) → result ≡ Err (StepEnd.Range key) → IsKeyOf (serial_step (setting_of self.old.rules fixes.now) self.old.state).fault key }
         ensures memory { result ≡ Err StepEnd.NoMemory
             → renews self.old.rules.cell.sides (unsigned_abs self.old.rules.skin) (positions (atoms_of (map (drifted (setting_of self.old.rules fixes.now)) self.old.state.atoms))) self.old.state.references ≡ true }
-        ensures steps { OnOk result (steps.new ≡ steps.old + length (half self.old.state.atoms)) }
-        ensures few_steps { steps.new ≤ steps.old + length (half self.old.state.atoms) }
+        ensures steps { OnOk result (steps.new ≡ steps.old + step_pairs (setting_of self.old.rules fixes.now) self.old.state) }
+        ensures few_steps { steps.new ≤ steps.old + step_pairs (setting_of self.old.rules fixes.now) self.old.state }
     {
         self.drift(fixes)?;
         let tally = self.forces(fixes, steps)?;

@@ -1,7 +1,10 @@
-use Rattle.std.proofs.Common.{ap, arith}
+use Rattle.std.proofs.Common.{◌≡◌, ap, arith, Err, ◌∙◌}
+use Rattle.log_output.specs.declared.send.Stop.TheVariants as stop
+use Rattle.nve_run.specs.Parts.{end_after}
 use Rattle.nve_run.specs.Shown.{footer_now}
 use Rattle.nve_run.proofs.RunLemmas.{footer_is, loop_done, loop_halts, loop_on, loop_stop}
 use Rattle.nve_run.proofs.StepLemmas.{number_next, rules_stand, state_next}
+use Rattle.nve_run.proofs.WorkLemmas.{work_done, work_on, work_stop}
 use Rattle.serial_step.specs.Step.{Setting}
 use Rattle.step_engine.specs.Engine.{setting_of}
 use Rattle.step_engine.specs.declared.rules.Rules.{Rules}
@@ -21,6 +24,9 @@ loop-step-preserved g c =
       number = number_next c.step_once.new.engine c.loop-step.engine u c.loop-step.step c.in-Ok.ensures.state c.loop-step.invariant.number;
       leads = loop_on (setting_of c.args.engine.now.rules c.args.fixes.now) u c.args.plan.now c.args.plan.now.last c.loop-step.step c.loop-step.engine.state c.step_once.new.engine.state
           c.loop-step-test.true (ap (λ (r : Rules). setting_of r c.args.fixes.now) c.loop-step.invariant.rules) c.loop-step.invariant.leads c.in-Ok.ensures.begins (state_next c.step_once.new.engine c.loop-step.engine u c.in-Ok.ensures.state);
+      work = work_on (setting_of c.args.engine.now.rules c.args.fixes.now) u c.args.plan.now.last c.loop-step.step c.loop-step.engine.state c.step_once.new.engine.state _ c.loop-step.steps c.step_once.new.steps
+          c.loop-step-test.true (ap (λ (r : Rules). setting_of r c.args.fixes.now) c.loop-step.invariant.rules) c.in-Ok.ensures.sound (state_next c.step_once.new.engine c.loop-step.engine u c.in-Ok.ensures.state) c.in-Ok.ensures.steps c.loop-step.invariant.work;
+      stay = c.in-Ok.ensures.stay (λ e. cc) ∙ c.loop-step.invariant.stay;
       kept = omega arith;
     }
 
@@ -34,3 +40,27 @@ returns-in-Err-put_footer-clause-tells g c =
     rw c.from.ensures
     (loop_halts _ (setting_of c.args.engine.now.rules c.args.fixes.now) c.args.plan.now c.args.plan.now.last c.loop-step.step c.loop-step.engine.state (footer_now c.loop-step.engine) c.in-Err-put_footer.stop
     c.loop-step-test.false c.loop-step.invariant.leads (footer_is c.loop-step.engine c.args.engine.now.rules c.args.fixes.now c.loop-step.invariant.rules) c.in-Err-put_footer.ensures.sends)
+
+pub returns-in-Err-clause-few_steps : goal.returns-in-Err-clause-few_steps
+returns-in-Err-clause-few_steps g c =
+    work_stop (setting_of c.args.engine.now.rules c.args.fixes.now) (setting_of c.loop-step.engine.rules c.args.fixes.now) c.args.plan.now.last c.loop-step.step c.loop-step.engine.state _ c.loop-step.steps c.step_once.new.steps
+    c.loop-step-test.true (ap (λ (r : Rules). setting_of r c.args.fixes.now) c.loop-step.invariant.rules) c.in-Err.ensures.few_steps c.loop-step.invariant.work
+
+pub returns-in-Ok-put_footer-clause-steps : goal.returns-in-Ok-put_footer-clause-steps
+returns-in-Ok-put_footer-clause-steps g c =
+    work_done (setting_of c.args.engine.now.rules c.args.fixes.now) c.args.plan.now.last c.loop-step.step c.loop-step.engine.state _ c.loop-step.steps c.loop-step-test.false c.loop-step.invariant.work
+
+pub returns-in-Ok-put_footer-clause-few_steps : goal.returns-in-Ok-put_footer-clause-few_steps
+returns-in-Ok-put_footer-clause-few_steps g c = omega (arith, c.loop-step.invariant.work)
+
+pub returns-in-Err-put_footer-clause-few_steps : goal.returns-in-Err-put_footer-clause-few_steps
+returns-in-Err-put_footer-clause-few_steps g c = omega (arith, c.loop-step.invariant.work)
+
+pub returns-in-Err-clause-stay : goal.returns-in-Err-clause-stay
+returns-in-Err-clause-stay g c = λ other. c.in-Err.ensures.stay other ∙ c.loop-step.invariant.stay
+
+pub returns-in-Ok-put_footer-clause-stay : goal.returns-in-Ok-put_footer-clause-stay
+returns-in-Ok-put_footer-clause-stay g c = λ other. c.in-Ok-put_footer.ensures.stay (λ e. cc) ∙ c.loop-step.invariant.stay
+
+pub returns-in-Err-put_footer-clause-stay : goal.returns-in-Err-put_footer-clause-stay
+returns-in-Err-put_footer-clause-stay g c = λ other. c.in-Err-put_footer.ensures.stay (λ e. let s : c.in-Err-put_footer.stop ≡ stop.WriteFault = cc in other (ap Err (c.from.ensures ∙ ap end_after s))) ∙ c.loop-step.invariant.stay

@@ -48,3 +48,7 @@ returns-in-Err-put_first-clause-begins g c =
       leads = tt;
       stopped = set_up_halts t p o (line_now c.forces.new.self c.in-Ok.tally) c.in-Err-put_first.stop _ _ sound line c.in-Err-put_first.ensures.sends;
     }
+
+pub returns-in-Ok-put_first-clause-sound : goal.returns-in-Ok-put_first-clause-sound
+returns-in-Ok-put_first-clause-sound g c =
+    set_up_fault c.args.engine.now.rules c.args.fixes.now c.args.step c.args.engine.now.state.atoms ∙ c.in-Ok.ensures.sound

@@ -1,7 +1,9 @@
 pub mod Arithmetic
 pub mod Fronts
+pub mod Grammar
 pub mod Numbers
 pub mod Operands
 pub mod Reading
+pub mod Spelling
 pub mod Value
 pub mod Words

@@ -56,14 +56,10 @@ abbrev pub pair_of : ℕ → ℕ → Option Operator
 pair_of first c =
     cond ((first == 38) && (c == 38)) (Some And)
     (cond ((first == 124) && (c == 124)) (Some Or)
-    (cond (c == 61) (before_equals first) None))
-  where
-    before_equals : ℕ → Option Operator
-    before_equals first =
-        cond (first == 60) (Some LessEqual)
-        (cond (first == 62) (Some GreaterEqual)
-        (cond (first == 61) (Some Equal)
-        (cond (first == 33) (Some NotEqual) None)))
+    (cond ((first == 60) && (c == 61)) (Some LessEqual)
+    (cond ((first == 62) && (c == 61)) (Some GreaterEqual)
+    (cond ((first == 61) && (c == 61)) (Some Equal)
+    (cond ((first == 33) && (c == 61)) (Some NotEqual) None)))))
 
 -- a blank or a tab
 abbrev pub is_blank : ℕ → Bool

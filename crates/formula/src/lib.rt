@@ -14,7 +14,9 @@ mod tree;
 mod value;
 mod words;
 
-pub use laws::refused_at_the_first_wrong_byte;
+pub use laws::{
+    operators_group_by_their_levels, refused_at_the_first_wrong_byte, texts_spell_their_trees,
+};
 pub use named::{NamedOperand, Operands, operands};
 pub use reading::parse;
 pub use tree::{Expr, Function, Operator, Sign};

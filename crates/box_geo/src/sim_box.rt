@@ -1,5 +1,5 @@
 //! The simulation box: its sides, what it holds, the nearest image of a displacement, its volume.
-ghost use Rattle.std.specs.Prelude.{◌≡◌, ◌^◌, ◌<◌, ◌≤◌, ◌↔◌, ◌*◌, ℕ, ℤ, pos, neg_ℤ, ◌+ℤ◌, ◌-ℤ◌, ◌*ℤ◌, ◌<ℤ◌, ◌≤ℤ◌, int_lt, unsigned_abs, IsTrue, IfOk, MatchResult};
+ghost use Rattle.std.specs.Prelude.{◌≡◌, ◌^◌, ◌<◌, ◌≤◌, ◌↔◌, ◌*◌, ℕ, ℤ, pos, neg_ℤ, ◌+ℤ◌, ◌-ℤ◌, ◌*ℤ◌, ◌<ℤ◌, ◌≤ℤ◌, cond, int_lt, unsigned_abs, IsTrue, IfOk, MatchResult};
 ghost use Rattle.fx_num.specs.Rounding.{nearest_of};
 ghost use Rattle.box_geo.specs.Sides.{edge, x_of, y_of, z_of, extent_of, sides_of, extent_refusal, box_refusal, IsSoundExtent, IsSound, Holds, IsInside, z_wraps, near_along, near_image, volume_of};
 
@@ -224,13 +224,34 @@ fn nearest_along(wraps: bool, length: i64, d: i64) -> i64
     ensures is { result ≡ near_along wraps length d }
     ensures bound { unsigned_abs result < 2 ^ 34 }
 {
-    if wraps && is_above(d, length) {
-        d - length
-    } else if wraps && is_below(d, length) {
-        d + length
-    } else {
-        d
+    if !wraps {
+        return d;
     }
+    raised(lowered(d, length), length)
+}
+
+/// `d`, less `length` where it is above half of that.
+// A choice between two numbers is no jump, which the processor would often guess wrong.
+#[inline(always)]
+fn lowered(d: i64, length: i64) -> i64
+    requires length { (pos 0 <ℤ length) × (length ≤ℤ pos (2 ^ 34)) }
+    requires within { unsigned_abs d < unsigned_abs length }
+    ensures is { result ≡ cond (int_lt length (pos 2 *ℤ d)) (d -ℤ length) d }
+    ensures bound { unsigned_abs result < 2 ^ 34 }
+    ensures low { unsigned_abs result < unsigned_abs length }
+{
+    if is_above(d, length) { d - length } else { d }
+}
+
+/// `d`, with `length` more where it is below minus half of that.
+#[inline(always)]
+fn raised(d: i64, length: i64) -> i64
+    requires length { (pos 0 <ℤ length) × (length ≤ℤ pos (2 ^ 34)) }
+    requires within { unsigned_abs d < unsigned_abs length }
+    ensures is { result ≡ cond (int_lt (pos 2 *ℤ d) (neg_ℤ length)) (d +ℤ length) d }
+    ensures bound { unsigned_abs result < 2 ^ 34 }
+{
+    if is_below(d, length) { d + length } else { d }
 }
 
 /// Whether `d` is above half of `length`.

@@ -1,10 +1,11 @@
 //! A table of pair coefficients from its first number to its terms, whole and by halves, against numbers worked by hand;
 //! and how many guesses of a list of pairs are wrong.
-ghost use Rattle.std.specs.Prelude.{◌≡◌, ◌^◌, ◌<◌, ◌≤◌, unsigned_abs};
+ghost use Rattle.std.specs.Prelude.{◌≡◌, ◌^◌, ◌<◌, ◌≤◌, pos, ◌<ℤ◌, ◌≤ℤ◌, unsigned_abs};
+ghost use Rattle.pair_lj.specs.PairTerm.{IsDisplacement};
 ghost use Rattle.pair_lj.specs.Table.{kinds_of, IsFinished};
 
 use box_geo::Term;
-use box_geo::limits::{MAX_CUTOFF, MAX_EPSILON, MAX_SIGMA};
+use box_geo::limits::{FULL_WEIGHT, MAX_CUTOFF, MAX_EPSILON, MAX_SIGMA};
 use fx_num::{Steps, V3, is_nearest, nearest_shift};
 use pair_lj::{Close, Guess, PairTable, Unset};
 use std::marker::Brand;
@@ -46,14 +47,50 @@ fn has_terms<L: Ledger>(rt: &impl Abort, table: &PairTable, blank: Blank)
     let mut steps = Steps::<L>::new(blank);
     let rows = [
         // distance 2, energy -4·(1/64 - 1/4096)
-        (1, 1, -2 * ONE, ONE, Ok(Some((3_047_424, -1_032_192, -102_254_581_383_168)))),
-        (1, 1, 2 * ONE, ONE, Ok(Some((-3_047_424, -1_032_192, -102_254_581_383_168)))),
+        (
+            1,
+            1,
+            -2 * ONE,
+            ONE,
+            Ok(Some((3_047_424, -1_032_192, -102_254_581_383_168))),
+        ),
+        (
+            1,
+            1,
+            2 * ONE,
+            ONE,
+            Ok(Some((-3_047_424, -1_032_192, -102_254_581_383_168))),
+        ),
         // the same with half the weight
-        (1, 1, -2 * ONE, ONE / 2, Ok(Some((1_523_712, -516_096, -51_127_290_691_584)))),
+        (
+            1,
+            1,
+            -2 * ONE,
+            ONE / 2,
+            Ok(Some((1_523_712, -516_096, -51_127_290_691_584))),
+        ),
         // distance 1: the energy is 0, the force 24 and 48
-        (1, 1, -ONE, ONE, Ok(Some((-402_653_184, 0, 6_755_399_441_055_744)))),
-        (1, 2, -ONE, ONE, Ok(Some((-805_306_368, 0, 13_510_798_882_111_488)))),
-        (2, 1, -ONE, ONE, Ok(Some((-805_306_368, 0, 13_510_798_882_111_488)))),
+        (
+            1,
+            1,
+            -ONE,
+            ONE,
+            Ok(Some((-402_653_184, 0, 6_755_399_441_055_744))),
+        ),
+        (
+            1,
+            2,
+            -ONE,
+            ONE,
+            Ok(Some((-805_306_368, 0, 13_510_798_882_111_488))),
+        ),
+        (
+            2,
+            1,
+            -ONE,
+            ONE,
+            Ok(Some((-805_306_368, 0, 13_510_798_882_111_488))),
+        ),
         // no well
         (2, 2, 4 * ONE, ONE, Ok(Some((0, 0, 0)))),
         // at the cutoff, at distance 0.2 and at one place, whatever the weight
@@ -83,28 +120,121 @@ fn hard_pairs(rt: HostRuntime) -> Result<(), Fail> {
     let (tie, short) = (65_537 << 8, ONE / 4);
     let rows: [Row; 17] = [
         // sigma² / r² is a tie: 65537² / 2 in units of 2^-32. Of the weights the least leaves a unit of the force.
-        (ONE, tie, CUT, [ONE, ONE, 0], ONE, Ok(Some(([-18_875_520, -18_875_520, 0], -7_340_608, -633_357_352_304_640)))),
-        (ONE, tie, CUT, [ONE, -ONE, 0], ONE / 2, Ok(Some(([-9_437_760, 9_437_760, 0], -3_670_304, -316_678_676_152_320)))),
-        (ONE, tie, CUT, [ONE, -ONE, 0], 1, Ok(Some(([-1, 1, 0], 0, -33_554_432)))),
+        (
+            ONE,
+            tie,
+            CUT,
+            [ONE, ONE, 0],
+            ONE,
+            Ok(Some((
+                [-18_875_520, -18_875_520, 0],
+                -7_340_608,
+                -633_357_352_304_640,
+            ))),
+        ),
+        (
+            ONE,
+            tie,
+            CUT,
+            [ONE, -ONE, 0],
+            ONE / 2,
+            Ok(Some(([-9_437_760, 9_437_760, 0], -3_670_304, -316_678_676_152_320))),
+        ),
+        (
+            ONE,
+            tie,
+            CUT,
+            [ONE, -ONE, 0],
+            1,
+            Ok(Some(([-1, 1, 0], 0, -33_554_432))),
+        ),
         // no quotient is whole
-        (ONE, ONE, CUT, [11_863_283, -9_490_627, 7_118_000], ONE, Ok(Some(([284_714_425, -227_771_555, 170_829_380], -309, 6_755_306_194_512_260)))),
+        (
+            ONE,
+            ONE,
+            CUT,
+            [11_863_283, -9_490_627, 7_118_000],
+            ONE,
+            Ok(Some((
+                [284_714_425, -227_771_555, 170_829_380],
+                -309,
+                6_755_306_194_512_260,
+            ))),
+        ),
         // r² at its least: 1, with sigma 1, 4 and 5 units. The strength is 24·2^56.
-        (1, 1, ONE, [1, 0, 0], ONE, Ok(Some(([402_653_184, 0, 0], 0, 402_653_184)))),
+        (
+            1,
+            1,
+            ONE,
+            [1, 0, 0],
+            ONE,
+            Ok(Some(([402_653_184, 0, 0], 0, 402_653_184))),
+        ),
         (0, 4, ONE, [0, 0, -1], ONE, Ok(Some(([0, 0, 0], 0, 0)))),
         (0, 5, ONE, [0, 1, 0], ONE, Err(Close)),
         (0, 1, 1, [0, 0, 0], ONE, Err(Close)),
         (0, 1, 1, [0, 1, 0], ONE, Ok(None)),
         // r² at its greatest: a unit below the greatest cutoff, and at it
-        (MAX_EPSILON, MAX_SIGMA, MAX_CUTOFF, [MAX_CUTOFF - 1, 0, 0], ONE, Ok(Some(([-97_517_571, 0, 0], -264_241_160, -26_177_173_541_879_805)))),
-        (MAX_EPSILON, MAX_SIGMA, MAX_CUTOFF, [0, -MAX_CUTOFF, 0], ONE, Ok(None)),
-        (MAX_EPSILON, MAX_SIGMA, MAX_CUTOFF, [1 << 32, 1 << 33, 1], ONE, Ok(None)),
+        (
+            MAX_EPSILON,
+            MAX_SIGMA,
+            MAX_CUTOFF,
+            [MAX_CUTOFF - 1, 0, 0],
+            ONE,
+            Ok(Some(([-97_517_571, 0, 0], -264_241_160, -26_177_173_541_879_805))),
+        ),
+        (
+            MAX_EPSILON,
+            MAX_SIGMA,
+            MAX_CUTOFF,
+            [0, -MAX_CUTOFF, 0],
+            ONE,
+            Ok(None),
+        ),
+        (
+            MAX_EPSILON,
+            MAX_SIGMA,
+            MAX_CUTOFF,
+            [1 << 32, 1 << 33, 1],
+            ONE,
+            Ok(None),
+        ),
         // sigma² / r² at its greatest, 16: the strength is 24·8191·2^24
-        (1, ONE, CUT, [short, 0, 0], ONE, Ok(Some(([3_220_832_256, 0, 0], 67_092_480, 13_509_149_614_669_824)))),
+        (
+            1,
+            ONE,
+            CUT,
+            [short, 0, 0],
+            ONE,
+            Ok(Some(([3_220_832_256, 0, 0], 67_092_480, 13_509_149_614_669_824))),
+        ),
         (1, ONE, CUT, [short - 1, 0, 0], ONE, Err(Close)),
         // a force at its greatest, a unit nearer, and two components that are below it alone
-        (ONE, ONE, CUT, [-8_648_098, 0, 0], ONE, Ok(Some(([-4_398_041_388_925, 0, 0], 187_131_629_933, 38_034_692_939_479_514_650)))),
+        (
+            ONE,
+            ONE,
+            CUT,
+            [-8_648_098, 0, 0],
+            ONE,
+            Ok(Some((
+                [-4_398_041_388_925, 0, 0],
+                187_131_629_933,
+                38_034_692_939_479_514_650,
+            ))),
+        ),
         (ONE, ONE, CUT, [-8_648_097, 0, 0], 1, Err(Close)),
-        (ONE, ONE, CUT, [-6_116_128, -6_116_128, 0], ONE, Ok(Some(([-3_103_257_287_504, -3_103_257_287_504, 0], 186_761_572_069, 37_959_837_574_614_529_024)))),
+        (
+            ONE,
+            ONE,
+            CUT,
+            [-6_116_128, -6_116_128, 0],
+            ONE,
+            Ok(Some((
+                [-3_103_257_287_504, -3_103_257_287_504, 0],
+                186_761_572_069,
+                37_959_837_574_614_529_024,
+            ))),
+        ),
     ];
     for (eps, sigma, cut, d, weight, want) in rows {
         assert!(rt; eps >= 0 && eps <= MAX_EPSILON && sigma > 0 && sigma <= MAX_SIGMA);
@@ -112,23 +242,34 @@ fn hard_pairs(rt: HostRuntime) -> Result<(), Fail> {
         let mut table = PairTable::new(rt.alloc(), 1, CUT)?;
         table.set(1, 1, eps, sigma, cut);
         table.finish()?;
-        has_term_by_halves::<Brand>(&rt, &table, d, weight, want, Blank::new(1));
+        let [x, y, z] = d;
+        assert!(rt; x > -(1 << 34) && x < 1 << 34 && y > -(1 << 34) && y < 1 << 34);
+        assert!(rt; z > -(1 << 34) && z < 1 << 34 && weight > 0 && weight <= FULL_WEIGHT);
+        has_term_by_halves::<Brand>(&rt, &table, [x, y, z], weight, want, Blank::new(1));
     }
     Ok(())
 }
 
 /// The term as a whole, and by halves with a right guess and with wrong ones.
-fn has_term_by_halves<L: Ledger>(rt: &impl Abort, table: &PairTable, d: V3, weight: i64, want: Wanted, blank: Blank)
+fn has_term_by_halves<L: Ledger>(
+    rt: &impl Abort,
+    table: &PairTable,
+    d: V3,
+    weight: i64,
+    want: Wanted,
+    blank: Blank,
+)
     requires name { blank.name ≡ L.name }
     requires parts { blank.parts ≡ L.parts }
     requires some { 0 < blank.parts }
     requires finished { IsFinished table.now }
     requires one { kinds_of table.now ≡ 1 }
+    requires d { IsDisplacement d }
+    requires weight { (pos 0 <ℤ weight) × (weight ≤ℤ FULL_WEIGHT) }
 {
     let mut steps = Steps::<L>::new(blank);
-    assert!(rt; d[0] > -(1 << 34) && d[0] < 1 << 34 && d[1] > -(1 << 34) && d[1] < 1 << 34);
-    assert!(rt; d[2] > -(1 << 34) && d[2] < 1 << 34 && weight > 0 && weight <= ONE);
-    assert_eq!(rt; numbers_of(table.term(1, 1, d, weight, &mut steps)), want, "at {d:?} with {weight}");
+    let whole = numbers_of(table.term(1, 1, d, weight, &mut steps));
+    assert_eq!(rt; whole, want, "at {d:?} with {weight}");
     let Some(right) = table.guess(1, 1, d) else {
         assert_eq!(rt; want, Ok(None), "no guess at {d:?}");
         return;
@@ -138,8 +279,8 @@ fn has_term_by_halves<L: Ledger>(rt: &impl Abort, table: &PairTable, d: V3, weig
     let one_less = with_strength(right, right.strength.saturating_sub(1));
     let lesser = one_off(right).unwrap_or(right);
     for guess in [right, elsewhere, less, one_less, lesser] {
-        let got = table.term_with(1, 1, d, weight, guess, &mut steps);
-        assert_eq!(rt; numbers_of(got), want, "by halves at {d:?} with {weight}");
+        let got = numbers_of(table.term_with(1, 1, d, weight, guess, &mut steps));
+        assert_eq!(rt; got, want, "by halves at {d:?} with {weight}");
     }
 }
 
@@ -159,8 +300,18 @@ fn numbers_of(outcome: Result<Option<Term>, Close>) -> Wanted {
 fn with_strength(guess: Guess, strength: u64) -> Guess
     requires { strength < 2 ^ 52 }
 {
-    let Guess { ratio, sixth, twelfth, .. } = guess;
-    Guess { ratio, sixth, twelfth, strength }
+    let Guess {
+        ratio,
+        sixth,
+        twelfth,
+        ..
+    } = guess;
+    Guess {
+        ratio,
+        sixth,
+        twelfth,
+        strength,
+    }
 }
 
 /// A guess whose square of sigma over the distance is one less, with the powers of that.
@@ -207,7 +358,11 @@ fn wrong_guesses(table: &PairTable, sigma: u64, wide: bool) -> (u64, u64)
     let (mut guesses, mut wrong) = (0u64, 0u64);
     let mut state = 1;
     for _ in 0..20_000u16 {
-        let (x, y, z) = (drawn(&mut state, wide), drawn(&mut state, wide), drawn(&mut state, wide));
+        let (x, y, z) = (
+            drawn(&mut state, wide),
+            drawn(&mut state, wide),
+            drawn(&mut state, wide),
+        );
         let r2 = length2(x, y, z);
         let sigma2 = sigma.wrapping_mul(sigma);
         if r2 < sigma2 / 100 * 81 {
@@ -227,7 +382,9 @@ fn wrong_guesses(table: &PairTable, sigma: u64, wide: bool) -> (u64, u64)
 fn drawn(state: &mut u64, wide: bool) -> i64
     ensures { unsigned_abs result ≤ 2 ^ 27 }
 {
-    *state = state.wrapping_mul(6_364_136_223_846_793_005).wrapping_add(1_442_695_040_888_963_407);
+    *state = state
+        .wrapping_mul(6_364_136_223_846_793_005)
+        .wrapping_add(1_442_695_040_888_963_407);
     if wide {
         (*state >> 36) as i64 - (1 << 27)
     } else {

@@ -39,10 +39,25 @@ fn hard_quotients(rt: HostRuntime) -> Result<(), Fail> {
     for (a, b, want) in rows {
         assert!(rt; a < 1 << 126 && b > 0 && b <= 1 << 62);
         let near = (want % (1 << 64)) as u64;
-        for guess in [near, near.wrapping_add(1), near.wrapping_sub(1), 0, 1 << 51, u64::MAX] {
+        for guess in [
+            near,
+            near.wrapping_add(1),
+            near.wrapping_sub(1),
+            0,
+            1 << 51,
+            u64::MAX,
+        ] {
             let is_want = u128::from(guess) == want;
-            assert_eq!(rt; is_nearest(a, b, guess), is_want, "{guess} for {a} over {b}");
-            assert_eq!(rt; nearest_by_guess(a, b, guess), want, "{a} over {b} by {guess}");
+            assert_eq!(rt;
+                is_nearest(a, b, guess),
+                is_want,
+                "{guess} for {a} over {b}"
+            );
+            assert_eq!(rt;
+                nearest_by_guess(a, b, guess),
+                want,
+                "{a} over {b} by {guess}"
+            );
         }
     }
     assert!(rt; !is_nearest(0, 0, 0) && !is_nearest(7, 0, 1));

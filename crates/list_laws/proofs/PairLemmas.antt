@@ -1,15 +1,16 @@
 -- Rows of the near atoms of greater id, and the near pairs.
-use Rattle.std.proofs.Common.{◌≡◌, ◌<◌, ◌≤◌, ◌&&◌, Bool, true, false, cond, ℕ, suc, List, [], ◌∷◌, ◌++◌, map, flat_map, filter, IsPermutation, refl, sym, ap, subst, ◌∙◌, arith}
+use Rattle.std.proofs.Common.{◌≡◌, ◌+◌, ◌<◌, ◌≤◌, ◌&&◌, Bool, true, false, cond, ℕ, suc, List, [], ◌∷◌, ◌++◌, get_or, drop, map, flat_map, filter, IsPermutation, refl, sym, ap, subst, ◌∙◌, arith}
 use Rattle.std.specs.Prelude.{nat_lt}
 use Rattle.std.specs.List.{All}
 use Rattle.std.proofs.lemmas.Bool.Decides.{nat_tests}
+use Rattle.std.proofs.lemmas.List.{drop-drop, get_or-drop}
 use Rattle.std.proofs.lemmas.List.Elements.{All-head, All-tail, filter-append}
 use Rattle.std.proofs.lemmas.List.Sorted.{IsPermutation-append, IsPermutation-map, IsPermutation-refl, IsPermutation-trans}
 use Rattle.box_geo.specs.declared.atoms.Atom.{Atom}
 use Rattle.box_geo.specs.declared.atoms.Site.{Site}
-use Rattle.half_list.specs.Neighbours.{is_listed, neighbours}
+use Rattle.half_list.specs.Neighbours.{is_listed, is_near, neighbours}
 use Rattle.half_list.proofs.Permutations.{IsPermutation-flat_map}
-use Rattle.list_laws.specs.Pairs.{AreRows, IdsRise, ShowNear, greater_near, pairs_of}
+use Rattle.list_laws.specs.Pairs.{AreRows, IdsRise, ShowNear, greater_near, pairs_of, site_of, sites_from}
 use Rattle.sums.specs.Totals.{half}
 
 map_twice : {X Y Z : Type 0} (f : Y → Z) (g : X → Y) (xs : List X) → map f (map g xs) ≡ map (λ x. f (g x)) xs
@@ -25,6 +26,27 @@ row_of_atoms near reach atoms sites atom_at own_site own row shown listed =
     IsPermutation-trans (greater_near near atoms own) (map (λ (s : Site). atom_at s.place) there) (map atom_at row) shown
     (subst (λ l. IsPermutation l (map atom_at row)) (map_twice atom_at (λ (s : Site). s.place) there)
     (IsPermutation-map atom_at (neighbours reach own_site sites) row listed))
+
+-- sites without images show each atom at its place
+one_shown : (at : ℕ → Atom) (b : Bool) (place : ℕ) (a : Atom) (sites : List Site) (atoms : List Atom) → at place ≡ a → map (λ (s : Site). at s.place) sites ≡ atoms
+    → map (λ (s : Site). at s.place) (cond b (site_of place a ∷ sites) sites) ≡ cond b (a ∷ atoms) atoms
+one_shown at true place a sites atoms is e = ap (λ (x : Atom). x ∷ map (λ (s : Site). at s.place) sites) is ∙ ap (λ l. a ∷ l) e
+one_shown at false place a sites atoms is e = e
+
+shown_from : (reach place : ℕ) (own d : Atom) (atoms : List Atom) (k : ℕ) (xs : List Atom) → drop k atoms ≡ xs
+    → map (λ (s : Site). get_or atoms s.place d) (filter (is_listed reach (site_of place own)) (sites_from k xs)) ≡ greater_near (λ p. is_near reach p.0.x p.1.x) xs own
+shown_from reach place own d atoms k [] is = refl
+shown_from reach place own d atoms k (x ∷ xs) is =
+    one_shown (λ n. get_or atoms n d) (nat_lt own.id x.id && is_near reach own.x x.x) k x
+    (filter (is_listed reach (site_of place own)) (sites_from (k + 1) xs)) (greater_near (λ p. is_near reach p.0.x p.1.x) xs own)
+    (ap (λ (n : ℕ). get_or atoms n d) (let e : k ≡ k + 0 = omega arith in e) ∙ sym (get_or-drop k atoms 0 d) ∙ ap (λ l. get_or l 0 d) is)
+    (shown_from reach place own d atoms (k + 1) xs (sym (drop-drop 1 k atoms) ∙ ap (drop 1) is))
+
+pub sites_show : (reach : ℕ) (atoms : List Atom) (place : ℕ) (own d : Atom)
+    → ShowNear (λ p. is_near reach p.0.x p.1.x) reach atoms (sites_from 0 atoms) (λ k. get_or atoms k d) (site_of place own) own
+sites_show reach atoms place own d =
+    subst (λ l. IsPermutation (greater_near (λ p. is_near reach p.0.x p.1.x) atoms own) l) (sym (shown_from reach place own d atoms 0 atoms refl))
+    (IsPermutation-refl (greater_near (λ p. is_near reach p.0.x p.1.x) atoms own))
 
 module _ (near : Atom × Atom → Bool) where
   -- the pairs of an atom with all of its row

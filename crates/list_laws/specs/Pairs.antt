@@ -1,5 +1,5 @@
 -- Rows of atoms: for each own atom those of greater id that are near.
-use Rattle.std.specs.Prelude.{◌≡◌, ◌<◌, ◌&&◌, Bool, nat_lt, ℕ, List, [], ◌∷◌, ◌++◌, length, map, slice_index_or}
+use Rattle.std.specs.Prelude.{◌≡◌, ◌+◌, ◌<◌, ◌&&◌, Bool, nat_lt, ℕ, List, [], ◌∷◌, ◌++◌, length, map, slice_index_or}
 use Rattle.std.specs.List.{filter}
 use Rattle.std.specs.List.Sorted.{IsPermutation}
 use Rattle.box_geo.specs.declared.atoms.Atom.{Atom}
@@ -29,3 +29,11 @@ pairs_of (own ∷ others) (row ∷ rows) = map (λ other. (own, other)) row ++ p
 abbrev pub ShowNear : (Atom × Atom → Bool) → ℕ → List Atom → List Site → (ℕ → Atom) → Site → Atom → Type 0
 ShowNear near reach atoms sites atom_at own_site own =
     IsPermutation (greater_near near atoms own) (map (λ s. atom_at s.place) (filter (is_listed reach own_site) sites))
+
+-- the site of an atom at a place, and the sites of atoms at their places in a list, without images
+abbrev pub site_of : ℕ → Atom → Site
+site_of place a = record { x = a.x; id = a.id; place = place }
+
+abbrev pub sites_from : ℕ → List Atom → List Site
+sites_from place [] = []
+sites_from place (a ∷ atoms) = site_of place a ∷ sites_from (place + 1) atoms

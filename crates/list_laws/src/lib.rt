@@ -5,5 +5,7 @@
 mod pairs;
 mod skin;
 
-pub use pairs::{rows_are_the_near_pairs, rows_of_sites_are_rows_of_atoms};
+pub use pairs::{
+    rows_are_the_near_pairs, rows_of_sites_are_rows_of_atoms, sites_without_images_show_each_atom,
+};
 pub use skin::no_pair_is_missed_within_half_the_skin;

@@ -1,0 +1,19 @@
+//! What a variable holds.
+
+use fx_num::{Text, Words};
+
+/// What a variable holds.
+#[derive(Drop)]
+pub enum VarStyle {
+    /// `index`: these values one after another, the first of them first.
+    Index(Words),
+    /// `loop`: the numbers from `first` to `last`.
+    Loop {
+        /// The present number.
+        first: u32,
+        /// The last number.
+        last: u32,
+    },
+    /// `string`: a text.
+    Plain(Text),
+}

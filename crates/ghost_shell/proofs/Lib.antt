@@ -1,0 +1,10 @@
+pub mod SignLemmas
+pub mod ListLemmas
+pub mod PlaceLemmas
+pub mod WalkLemmas
+pub mod ShellLemmas
+pub mod ForwardLemmas
+pub mod ImageLemmas
+pub mod RowLemmas
+pub mod ListsLemmas
+pub mod PairLemmas

@@ -1,0 +1,5 @@
+pub mod Images
+pub mod Ghosts
+pub mod Halos
+pub mod Walks
+pub mod Lists

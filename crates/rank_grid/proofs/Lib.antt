@@ -1,0 +1,4 @@
+pub mod SideLemmas
+pub mod RankLemmas
+pub mod PartLemmas
+pub mod OwnedLemmas

@@ -1,0 +1,42 @@
+//! Commands from words: each word of a line is compared with the forms of the command that its first
+//! word names, and its words and numbers make the command.
+#![tactic(auto)]
+
+mod bonds;
+mod command;
+mod computes;
+mod dumps;
+mod fixes;
+mod flow;
+mod lattice;
+mod masses_groups;
+mod neighbors;
+mod output;
+mod pairs;
+mod ranges;
+mod restarts;
+mod runs;
+mod session;
+mod setup;
+mod system_files;
+mod thermo;
+mod variables;
+mod velocity;
+
+pub use bonds::{AngleCoeff, BondCoeff};
+pub use command::Command;
+pub use computes::{ComputeStyle, NewCompute};
+pub use dumps::{DumpChange, DumpStyle, NewDump};
+pub use fixes::{Averages, FixStyle, NewFix};
+pub use flow::{Branch, Choice, Jump};
+pub use lattice::{
+    Block, Creation, CreationSites, LatticeSetting, NewBox, NewRegion, Shape, SinglePoint, Sphere,
+};
+pub use masses_groups::{GroupChange, MassSetting, Members};
+pub use pairs::{PairChange, PairCoeff};
+pub use ranges::{IdRange, KindRange};
+pub use restarts::{RestartFiles, Saves};
+pub use runs::Run;
+pub use thermo::Columns;
+pub use variables::{LoopRange, NewVariable, VariableStyle};
+pub use velocity::{Components, Draws, VelocityAction, VelocityChange};

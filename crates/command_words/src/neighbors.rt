@@ -1,0 +1,1 @@
+//! Neighbours: `neighbor`, `neigh_modify`, `comm_modify`.

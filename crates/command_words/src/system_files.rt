@@ -1,0 +1,1 @@
+//! Data files: `read_data`, `write_data`.

@@ -3,25 +3,35 @@
 #![tactic(auto)]
 
 mod bonds;
+mod branches;
 mod command;
 mod computes;
 mod dumps;
 mod fixes;
 mod flow;
+mod forms;
 mod lattice;
+mod limits;
 mod masses_groups;
+mod names;
 mod neighbors;
+mod options;
 mod output;
 mod pairs;
+mod places;
 mod ranges;
+mod read;
+mod refusal;
 mod restarts;
 mod runs;
 mod session;
 mod setup;
 mod system_files;
 mod thermo;
+mod values;
 mod variables;
 mod velocity;
+mod vocabulary;
 
 pub use bonds::{AngleCoeff, BondCoeff};
 pub use command::Command;
@@ -32,9 +42,12 @@ pub use flow::{Branch, Choice, Jump};
 pub use lattice::{
     Block, Creation, CreationSites, LatticeSetting, NewBox, NewRegion, Shape, SinglePoint, Sphere,
 };
+pub use limits::{MAX_DENSITY, MAX_LOOP, MAX_REPEAT, MAX_SEED, MIN_DENSITY};
 pub use masses_groups::{GroupChange, MassSetting, Members};
 pub use pairs::{PairChange, PairCoeff};
 pub use ranges::{IdRange, KindRange};
+pub use read::read_command;
+pub use refusal::WordRefusal;
 pub use restarts::{RestartFiles, Saves};
 pub use runs::Run;
 pub use thermo::Columns;

@@ -1,0 +1,4 @@
+pub mod BranchLemmas
+pub mod OptionLemmas
+pub mod Products
+pub mod RangeLemmas

@@ -22,7 +22,9 @@ const REACH: i64 = 28 * UNIT / 10;
 fn wobble(seed: u64) -> u64
     ensures { result < 2 ^ 20 }
 {
-    seed.wrapping_mul(6_364_136_223_846_793_005).wrapping_add(1_442_695_040_888_963_407) >> 44
+    seed.wrapping_mul(6_364_136_223_846_793_005)
+        .wrapping_add(1_442_695_040_888_963_407)
+        >> 44
 }
 
 /// The coordinate of a place on the lattice, counted in half edges.
@@ -45,7 +47,11 @@ fn atom(number: u32, edge: u64) -> Site
     let z = cell / edge / edge % edge * 2 + (corner == 2 || corner == 3) as u64;
     let seed = number as u64 * 3;
     Site {
-        x: [coordinate(x, seed), coordinate(y, seed + 1), coordinate(z, seed + 2)],
+        x: [
+            coordinate(x, seed),
+            coordinate(y, seed + 1),
+            coordinate(z, seed + 2),
+        ],
         id: number,
         place: number,
     }

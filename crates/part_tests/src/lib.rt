@@ -13,6 +13,8 @@ mod fixes;
 #[cfg(test)]
 mod formulas;
 #[cfg(test)]
+mod lines;
+#[cfg(test)]
 mod neighbours;
 #[cfg(test)]
 mod numbers;
@@ -26,5 +28,7 @@ mod quantities;
 mod quotients;
 #[cfg(test)]
 mod teams;
+#[cfg(test)]
+mod variables;
 #[cfg(test)]
 mod weaves;

@@ -22,6 +22,8 @@ for crate in fx_num box_geo pair_lj; do
   grep "^$crate:" "$top/crates.txt" >>"$work/crates.txt"
 done
 cp -r "$here/src" "$here/proofs" "$work/crates/bench_pairs/"
+# (the gate reads each .rt and .antt file, so those of tools/ end in .txt)
+find "$work/crates/bench_pairs" -name '*.txt' -exec sh -c 'mv "$1" "${1%.txt}"' sh {} ';'
 echo "bench_pairs: pair_lj box_geo fx_num" >>"$work/crates.txt"
 cd "$work/crates/bench_pairs"
 if ! rt run -- near 1000 1 >"$work/log" 2>&1; then

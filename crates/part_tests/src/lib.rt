@@ -7,6 +7,8 @@ mod boards;
 #[cfg(test)]
 mod boxes;
 #[cfg(test)]
+mod bricks;
+#[cfg(test)]
 mod engines;
 #[cfg(test)]
 mod fixes;

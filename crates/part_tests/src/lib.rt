@@ -9,6 +9,8 @@ mod boxes;
 #[cfg(test)]
 mod bricks;
 #[cfg(test)]
+mod commands;
+#[cfg(test)]
 mod engines;
 #[cfg(test)]
 mod fixes;

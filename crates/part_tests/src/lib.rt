@@ -7,6 +7,10 @@ mod boards;
 #[cfg(test)]
 mod boxes;
 #[cfg(test)]
+mod bricks;
+#[cfg(test)]
+mod commands;
+#[cfg(test)]
 mod engines;
 #[cfg(test)]
 mod fixes;

@@ -1,10 +1,14 @@
 //! A table of pair coefficients from its first number to its terms, whole and by halves, against numbers worked by hand;
 //! and how many guesses of a list of pairs are wrong.
-ghost use Rattle.std.specs.Prelude.{◌≡◌, ◌^◌, ◌<◌, ◌≤◌, unsigned_abs};
+ghost use Rattle.std.specs.Prelude.{◌≡◌, ◌^◌, ◌<◌, ◌≤◌, pos, ◌<ℤ◌, ◌≤ℤ◌, unsigned_abs, IfOk};
+ghost use Rattle.pair_lj.specs.PairTerm.{IsDisplacement};
 ghost use Rattle.pair_lj.specs.Table.{kinds_of, IsFinished};
 
-use fx_num::{Steps, is_nearest};
+use box_geo::Term;
+use box_geo::limits::{FULL_WEIGHT, MAX_CUTOFF, MAX_EPSILON, MAX_SIGMA};
+use fx_num::{Steps, V3, is_nearest, nearest_shift};
 use pair_lj::{Close, Guess, PairTable, Unset};
+use std::alloc::Global;
 use std::marker::Brand;
 use std::process::Abort;
 use std::sync::ledger::{Blank, Ledger};
@@ -104,6 +108,270 @@ fn has_terms<L: Ledger>(rt: &impl Abort, table: &PairTable, blank: Blank)
         let got = got.map(|t| t.map(|t| (t.f[0], t.energy, t.virial)));
         assert_eq!(rt; got, want, "types {i} {j} at {x} with {weight}");
     }
+}
+
+/// What a term must be: the force, the energy and the virial.
+type Wanted = Result<Option<(V3, i64, i128)>, Close>;
+
+/// Epsilon, sigma and cutoff, the displacement, the weight, and the term.
+type Row = (i64, i64, i64, V3, i64, Wanted);
+
+#[test]
+fn hard_pairs(rt: HostRuntime) -> Result<(), Fail> {
+    let (tie, short) = (65_537 << 8, ONE / 4);
+    let rows: [Row; 18] = [
+        // sigma² / r² is a tie: 65537² / 2 in units of 2^-32. Of the weights the least leaves a unit of the force.
+        (
+            ONE,
+            tie,
+            CUT,
+            [ONE, ONE, 0],
+            ONE,
+            Ok(Some((
+                [-18_875_520, -18_875_520, 0],
+                -7_340_608,
+                -633_357_352_304_640,
+            ))),
+        ),
+        (
+            ONE,
+            tie,
+            CUT,
+            [ONE, -ONE, 0],
+            ONE / 2,
+            Ok(Some(([-9_437_760, 9_437_760, 0], -3_670_304, -316_678_676_152_320))),
+        ),
+        (
+            ONE,
+            tie,
+            CUT,
+            [ONE, -ONE, 0],
+            1,
+            Ok(Some(([-1, 1, 0], 0, -33_554_432))),
+        ),
+        // no quotient is whole
+        (
+            ONE,
+            ONE,
+            CUT,
+            [11_863_283, -9_490_627, 7_118_000],
+            ONE,
+            Ok(Some((
+                [284_714_425, -227_771_555, 170_829_380],
+                -309,
+                6_755_306_194_512_260,
+            ))),
+        ),
+        // r² at its least: 1, with sigma 1, 4 and 5 units. The strength is 24·2^56.
+        (
+            1,
+            1,
+            ONE,
+            [1, 0, 0],
+            ONE,
+            Ok(Some(([402_653_184, 0, 0], 0, 402_653_184))),
+        ),
+        (0, 4, ONE, [0, 0, -1], ONE, Ok(Some(([0, 0, 0], 0, 0)))),
+        (0, 5, ONE, [0, 1, 0], ONE, Err(Close)),
+        (0, 1, 1, [0, 0, 0], ONE, Err(Close)),
+        (0, 1, 1, [0, 1, 0], ONE, Ok(None)),
+        // r² at its greatest: a unit below the greatest cutoff, and at it
+        (
+            MAX_EPSILON,
+            MAX_SIGMA,
+            MAX_CUTOFF,
+            [MAX_CUTOFF - 1, 0, 0],
+            ONE,
+            Ok(Some(([-97_517_571, 0, 0], -264_241_160, -26_177_173_541_879_805))),
+        ),
+        (
+            MAX_EPSILON,
+            MAX_SIGMA,
+            MAX_CUTOFF,
+            [0, -MAX_CUTOFF, 0],
+            ONE,
+            Ok(None),
+        ),
+        (
+            MAX_EPSILON,
+            MAX_SIGMA,
+            MAX_CUTOFF,
+            [1 << 32, 1 << 33, 1],
+            ONE,
+            Ok(None),
+        ),
+        // sigma² / r² at its greatest, 16: the strength is 24·8191·2^24
+        (
+            1,
+            ONE,
+            CUT,
+            [short, 0, 0],
+            ONE,
+            Ok(Some(([3_220_832_256, 0, 0], 67_092_480, 13_509_149_614_669_824))),
+        ),
+        (1, ONE, CUT, [short - 1, 0, 0], ONE, Err(Close)),
+        // a force at its greatest, a unit nearer, and two components that are below it alone
+        (
+            ONE,
+            ONE,
+            CUT,
+            [-8_648_098, 0, 0],
+            ONE,
+            Ok(Some((
+                [-4_398_041_388_925, 0, 0],
+                187_131_629_933,
+                38_034_692_939_479_514_650,
+            ))),
+        ),
+        (ONE, ONE, CUT, [-8_648_097, 0, 0], ONE, Err(Close)),
+        (ONE, ONE, CUT, [-8_648_097, 0, 0], 1, Err(Close)),
+        (
+            ONE,
+            ONE,
+            CUT,
+            [-6_116_128, -6_116_128, 0],
+            ONE,
+            Ok(Some((
+                [-3_103_257_287_504, -3_103_257_287_504, 0],
+                186_761_572_069,
+                37_959_837_574_614_529_024,
+            ))),
+        ),
+    ];
+    for row in rows {
+        has_row(&rt, rt.alloc(), row)?;
+    }
+    Ok(())
+}
+
+/// The term of a row, from a table of its own.
+fn has_row(rt: &impl Abort, alloc: Global, row: Row) -> Result<(), Fail> {
+    let (eps, sigma, cut, d, weight, want) = row;
+    let table = table_of(rt, alloc, eps, sigma, cut)?;
+    let [x, y, z] = d;
+    let d = [component(rt, x), component(rt, y), component(rt, z)];
+    let weight = special_weight(rt, weight);
+    has_term_by_halves::<Brand>(rt, &table, d, weight, want, Blank::new(1));
+    Ok(())
+}
+
+/// A table of one type with these coefficients.
+fn table_of(
+    rt: &impl Abort,
+    alloc: Global,
+    eps: i64,
+    sigma: i64,
+    cut: i64,
+) -> Result<PairTable, Fail>
+    ensures finished { IfOk result IsFinished }
+    ensures one { IfOk result (λ t. kinds_of t ≡ 1) }
+{
+    assert!(rt; eps >= 0 && eps <= MAX_EPSILON && sigma > 0 && sigma <= MAX_SIGMA);
+    assert!(rt; cut > 0 && cut <= MAX_CUTOFF);
+    assert!(rt; sigma <= 4 * cut);
+    let mut table = PairTable::new(alloc, 1, CUT)?;
+    table.set(1, 1, eps, sigma, cut);
+    table.finish()?;
+    Ok(table)
+}
+
+/// `x`, a component of a displacement, which must be below 2^34 in magnitude.
+fn component(rt: &impl Abort, x: i64) -> i64
+    ensures { unsigned_abs result < 2 ^ 34 }
+{
+    assert!(rt; x > -(1 << 34) && x < 1 << 34);
+    x
+}
+
+/// `weight`, a special weight, which must be above 0 and at most a whole one.
+fn special_weight(rt: &impl Abort, weight: i64) -> i64
+    ensures { (pos 0 <ℤ result) × (result ≤ℤ FULL_WEIGHT) }
+{
+    assert!(rt; weight > 0 && weight <= FULL_WEIGHT);
+    weight
+}
+
+/// The term as a whole, and by halves with a right guess and with wrong ones.
+fn has_term_by_halves<L: Ledger>(
+    rt: &impl Abort,
+    table: &PairTable,
+    d: V3,
+    weight: i64,
+    want: Wanted,
+    blank: Blank,
+)
+    requires name { blank.name ≡ L.name }
+    requires parts { blank.parts ≡ L.parts }
+    requires some { 0 < blank.parts }
+    requires finished { IsFinished table.now }
+    requires one { kinds_of table.now ≡ 1 }
+    requires d { IsDisplacement d }
+    requires weight { (pos 0 <ℤ weight) × (weight ≤ℤ FULL_WEIGHT) }
+{
+    let mut steps = Steps::<L>::new(blank);
+    let whole = numbers_of(table.term(1, 1, d, weight, &mut steps));
+    assert_eq!(rt; whole, want, "at {d:?} with {weight}");
+    let Some(right) = table.guess(1, 1, d) else {
+        assert_eq!(rt; want, Ok(None), "no guess at {d:?}");
+        return;
+    };
+    let elsewhere = table.guess(1, 1, [0, 0, 0]).unwrap_or(right);
+    let less = with_strength(right, right.strength / 2);
+    let one_less = with_strength(right, right.strength.saturating_sub(1));
+    let lesser = one_off(right).unwrap_or(right);
+    for guess in [right, elsewhere, less, one_less, lesser] {
+        let got = numbers_of(table.term_with(1, 1, d, weight, guess, &mut steps));
+        assert_eq!(rt; got, want, "by halves at {d:?} with {weight}");
+    }
+}
+
+/// The parts of a term.
+fn numbers_of(outcome: Result<Option<Term>, Close>) -> Wanted {
+    match outcome {
+        Ok(Some(term)) => {
+            let f = term.f;
+            Ok(Some((f, term.energy, term.virial)))
+        }
+        Ok(None) => Ok(None),
+        Err(fault) => Err(fault),
+    }
+}
+
+/// The guess with another strength.
+fn with_strength(guess: Guess, strength: u64) -> Guess
+    requires { strength < 2 ^ 52 }
+{
+    let Guess {
+        ratio,
+        sixth,
+        twelfth,
+        ..
+    } = guess;
+    Guess {
+        ratio,
+        sixth,
+        twelfth,
+        strength,
+    }
+}
+
+/// A guess whose square of sigma over the distance is one less, with the powers of that.
+fn one_off(guess: Guess) -> Option<Guess> {
+    let ratio = guess.ratio.saturating_sub(1);
+    let sixth = nearest_shift(ratio as u128 * ratio as u128 * ratio as u128, 64);
+    if sixth > 1 << 44 {
+        return None;
+    }
+    let twelfth = nearest_shift(sixth * sixth, 32);
+    if twelfth > 1 << 56 {
+        return None;
+    }
+    Some(Guess {
+        ratio,
+        sixth: sixth as u64,
+        twelfth: twelfth as u64,
+        strength: guess.strength,
+    })
 }
 
 #[test]

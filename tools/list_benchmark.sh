@@ -13,11 +13,11 @@ top="$(dirname "$(readlink -f "${BASH_SOURCE[0]}")")/.."
 work="$(mktemp -d)"
 trap 'rm -rf "$work"' EXIT
 mkdir "$work/crates"
-cp -r "$top"/crates/{fx_num,box_geo,cell_bins,half_list} "$top/tools/list_benchmark" "$work/crates"
+cp -r "$top"/crates/{fx_num,sums,box_geo,cell_bins,half_list} "$top/tools/list_benchmark" "$work/crates"
 # (the gate reads each .rt and .antt file, so those of tools/ end in .txt)
 find "$work/crates/list_benchmark" -name '*.txt' -exec sh -c 'mv "$1" "${1%.txt}"' sh {} ';'
-grep -E '^(fx_num|box_geo|cell_bins|half_list):' "$top/crates.txt" >"$work/crates.txt"
-echo 'list_benchmark: half_list cell_bins box_geo fx_num' >>"$work/crates.txt"
+grep -E '^(fx_num|sums|box_geo|cell_bins|half_list):' "$top/crates.txt" >"$work/crates.txt"
+echo 'list_benchmark: half_list cell_bins sums box_geo fx_num' >>"$work/crates.txt"
 cd "$work/crates/list_benchmark"
 rt run </dev/null >"$work/build.txt" 2>&1 || { cat "$work/build.txt" >&2; exit 1; }
 

@@ -11,7 +11,7 @@ use Rattle.cell_bins.specs.Around.{joined}
 use Rattle.cell_bins.specs.Cells.{cell_before, count_of, is_in, number_at, number_of, number_round}
 use Rattle.cell_bins.specs.declared.limits.TheConstants.{MAX_COORDINATE}
 use Rattle.cell_bins.specs.Near.{IsNear, Meets}
-use Rattle.cell_bins.proofs.FilterLemmas.{among, flat_map-map, has_one_of, some_from}
+use Rattle.sums.proofs.Filters.{among, flat_map-map, has_one_of, some_from}
 
 -- the number of a cell is below their count
 pub number_below : (c : Cells) (x y z : ℕ) → number_of c x y z < count_of c

@@ -2,4 +2,3 @@ pub mod Around
 pub mod Bins
 pub mod Cells
 pub mod Near
-pub mod Sorting

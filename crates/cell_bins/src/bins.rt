@@ -5,7 +5,7 @@ ghost use Rattle.std.specs.List.Sorted.{IsPermutation};
 ghost use Rattle.box_geo.specs.declared.atoms.Site.{Site};
 ghost use Rattle.cell_bins.specs.Cells.{count_of, is_in};
 ghost use Rattle.cell_bins.specs.Near.{HaveOwnPlaces, IsNear, IsSmall, Meets, MeetsPlaces};
-ghost use Rattle.cell_bins.specs.Sorting.{part};
+ghost use Rattle.sums.specs.Sorting.{part};
 
 use crate::around::{Around, CellsAround};
 use crate::cells::Cells;

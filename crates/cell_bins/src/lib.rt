@@ -15,4 +15,4 @@ mod sorting;
 
 pub use around::{Around, CellsAround};
 pub use bins::Bins;
-pub use limits::{MAX_COORDINATE, MAX_REACH};
+pub use limits::{MAX_COORDINATE, MAX_REACH, bin_limits_are_these_numbers};

@@ -14,7 +14,7 @@ use Rattle.box_geo.specs.Sides.{HasEdges, Holds, IsInside, edge, length2, near_a
 use Rattle.box_geo.proofs.NearLemmas.{apart}
 use Rattle.ghost_shell.specs.Images.{moved, shifts, shifts_along, stays}
 use Rattle.ghost_shell.specs.Lists.{HasRoom, HasRoomAlong, difference, is_short, nearest_along, nearest_shift}
-use Rattle.ghost_shell.proofs.ListLemmas.{All-flat_map, filter_none, filter-flat_map}
+use Rattle.sums.proofs.Lists.{All-flat_map, filter_none, filter-flat_map}
 
 -- a length is among those of an axis
 abbrev pub IsAmong : Bool → ℤ → ℤ → Type 0

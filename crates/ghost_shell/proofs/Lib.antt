@@ -1,5 +1,4 @@
 pub mod SignLemmas
-pub mod ListLemmas
 pub mod PlaceLemmas
 pub mod WalkLemmas
 pub mod ShellLemmas
@@ -8,3 +7,4 @@ pub mod ImageLemmas
 pub mod RowLemmas
 pub mod ListsLemmas
 pub mod PairLemmas
+pub mod NumberLemmas

@@ -5,7 +5,6 @@ use Rattle.std.specs.List.Sorted.{IsStrictlyIncreasing}
 use Rattle.std.proofs.lemmas.Bool.Decides.{nat_tests}
 use Rattle.std.proofs.lemmas.List.{map-append}
 use Rattle.std.proofs.lemmas.List.Folds.{flat_map-map}
-use Rattle.std.proofs.lemmas.List.Concat.{flat_map-append}
 use Rattle.std.proofs.lemmas.List.Elements.{All-cons, All-filter, All-nil, All-weaker, filter-append, filter_passes}
 use Rattle.std.proofs.lemmas.List.Sorted.{IsPermutation-trans}
 use Rattle.box_geo.specs.declared.atoms.Atom.{Atom}
@@ -19,8 +18,8 @@ use Rattle.sums.specs.Totals.{half}
 use Rattle.ghost_shell.specs.declared.atom.Ghost.{Ghost}
 use Rattle.ghost_shell.specs.Ghosts.{ghosts}
 use Rattle.ghost_shell.specs.Lists.{HasRoom, HaveRisingIds, are_near, is_in_row, near_places, own_site, own_sites, pairs_of_rows, sites_of}
-use Rattle.ghost_shell.proofs.ListLemmas.{IsPermutation-flat_map, filter_same, filter-map, flat_map_each, flat_map_same, permutation_along}
-use Rattle.ghost_shell.proofs.RowLemmas.{in_own, map-map, row_over_sites}
+use Rattle.sums.proofs.Lists.{IsPermutation-flat_map, filter_same, filter-map, flat_map_each, flat_map_same, flat_map-flat_map, map-map, permutation_along}
+use Rattle.ghost_shell.proofs.RowLemmas.{in_own, row_over_sites}
 
 -- rising numbers, each below all that follow
 module _ {X : Type 0} (id : X → ℕ) where
@@ -74,10 +73,6 @@ all_above m v (a ∷ others) h =
 numbered_rises : (m : ℕ) (atoms : List Atom) → HaveRisingIds atoms → Rises (λ e. e.1.id) (numbered m atoms)
 numbered_rises m [] h = tt
 numbered_rises m (a ∷ others) h = (all_above (m + 1) a.id others h, numbered_rises (m + 1) others (tail_rises a.id (map (λ b. b.id) others) h))
-
-flat_map-flat_map : {X Y Z : Type 0} (g : Y → List Z) (f : X → List Y) (xs : List X) → flat_map g (flat_map f xs) ≡ flat_map (λ x. flat_map g (f x)) xs
-flat_map-flat_map g f [] = refl
-flat_map-flat_map g f (x ∷ xs) = flat_map-append g (f x) (flat_map f xs) ∙ ap (λ (l : List _). flat_map g (f x) ++ l) (flat_map-flat_map g f xs)
 
 below_all : (a n m : ℕ) → a + n ≤ m → All (λ r. r < m) (range_with_len a n)
 below_all a zero m le = All-nil (λ r. r < m)

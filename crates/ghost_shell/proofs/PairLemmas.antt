@@ -1,41 +1,20 @@
 -- From pairs of places to pairs of atoms.
-use Rattle.std.proofs.Common.{◌≡◌, ◌++◌, ◌<◌, ◌+◌, ℕ, List, [], ◌∷◌, length, get_or, map, filter, refl, sym, ap, ◌∙◌, arith}
+use Rattle.std.proofs.Common.{◌≡◌, ◌<◌, ◌+◌, ℕ, List, [], ◌∷◌, length, get_or, map, filter, refl, sym, ap, ◌∙◌, arith}
 use Rattle.std.specs.List.{All}
-use Rattle.std.proofs.lemmas.List.{map-append}
-use Rattle.std.proofs.lemmas.List.Elements.{All-append, All-filter, All-head, All-map, All-nil, All-tail, All-weaker}
+use Rattle.std.proofs.lemmas.List.Elements.{All-filter, All-weaker}
 use Rattle.box_geo.specs.declared.atoms.Atom.{Atom}
 use Rattle.box_geo.specs.declared.sim_box.Sides.{Sides}
 use Rattle.box_geo.specs.Sides.{near_image}
 use Rattle.rank_grid.specs.Owned.{numbered}
 use Rattle.sums.specs.Totals.{half}
 use Rattle.ghost_shell.specs.Lists.{are_near, atom_pair, is_short, near_places}
-use Rattle.ghost_shell.proofs.ListLemmas.{filter-map, map_same}
+use Rattle.sums.proofs.Lists.{All-half, filter-map, half-map, map-map, map_same}
 use Rattle.ghost_shell.proofs.PlaceLemmas.{length-numbered, numbered_at}
-use Rattle.ghost_shell.proofs.RowLemmas.{map-map}
-
--- the unordered pairs of a mapped list
-abbrev both : {X Y : Type 0} → (X → Y) → X × X → Y × Y
-both f p = (f p.0, f p.1)
-
-half-map : {X Y : Type 0} (f : X → Y) (xs : List X) → half (map f xs) ≡ map (both f) (half xs)
-half-map f [] = refl
-half-map f (x ∷ xs) =
-    ap (λ (l : List _). l ++ half (map f xs)) (map-map (λ y. (f x, y)) f xs ∙ sym (map-map (both f) (λ y. (x, y)) xs))
-    ∙ ap (λ (l : List _). map (both f) (map (λ y. (x, y)) xs) ++ l) (half-map f xs)
-    ∙ sym (map-append (both f) (map (λ y. (x, y)) xs) (half xs))
 
 -- the elements of numbered ones
 elements : {X : Type 0} (m : ℕ) (xs : List X) → map (λ e. e.1) (numbered m xs) ≡ xs
 elements m [] = refl
 elements m (x ∷ xs) = ap (λ (l : List _). x ∷ l) (elements (m + 1) xs)
-
--- what holds of all elements holds of both of each pair
-both_of : {X : Type 0} (P : X → Type 0) (xs : List X) → All P xs → All (λ p. P p.0 × P p.1) (half xs)
-both_of P [] all = All-nil (λ p. P p.0 × P p.1)
-both_of P (x ∷ xs) all =
-    All-append (λ p. P p.0 × P p.1) (map (λ y. (x, y)) xs) (half xs)
-    (All-map (λ p. P p.0 × P p.1) (λ y. (x, y)) xs (All-weaker P (λ y. P x × P y) (λ y h. (All-head P x xs all, h)) xs (All-tail P x xs all)))
-    (both_of P xs (All-tail P x xs all))
 
 stands_at : (atoms : List Atom) (d : Atom) → All (λ e. get_or atoms e.0 d ≡ e.1) (numbered 0 atoms)
 stands_at atoms d = λ k e lt.
@@ -56,6 +35,6 @@ near_atoms s reach atoms d =
     ∙ map_same (λ p. atom_pair atoms d (p.0.0, p.1.0)) pair kept
     (All-filter (are_near s reach) (λ p. atom_pair atoms d (p.0.0, p.1.0) ≡ pair p) (half es)
     (All-weaker (λ p. (get_or atoms p.0.0 d ≡ p.0.1) × (get_or atoms p.1.0 d ≡ p.1.1)) (λ p. atom_pair atoms d (p.0.0, p.1.0) ≡ pair p) (λ p h. same_pair atoms d p h.0 h.1) (half es)
-    (both_of (λ e. get_or atoms e.0 d ≡ e.1) es (stands_at atoms d))))
+    (All-half (λ e. get_or atoms e.0 d ≡ e.1) es (stands_at atoms d))))
     ∙ sym (filter-map (λ (p : Atom × Atom). is_short reach (near_image s p.0.x p.1.x)) pair (half es))
     ∙ ap (filter (λ (p : Atom × Atom). is_short reach (near_image s p.0.x p.1.x))) (sym (half-map (λ e. e.1) es) ∙ ap half (elements 0 atoms))

@@ -19,13 +19,8 @@ use Rattle.ghost_shell.specs.declared.atom.Ghost.{Ghost}
 use Rattle.ghost_shell.specs.Images.{Image, ghost_images, images, is_beside, is_in_halo, is_own, moved, position, shifts, stays}
 use Rattle.ghost_shell.specs.Ghosts.{ghost_of, ghosts}
 use Rattle.ghost_shell.specs.Lists.{HasRoom, are_near, difference, is_in_row, is_short, nearest_shift, own_site, own_sites, sites_of}
-use Rattle.ghost_shell.proofs.ListLemmas.{All-each, All-flat_map, IsPermutation-filter, exchange, filter_none, filter_same, filter-filter, filter-flat_map, filter-map, flat_map_same, flat_map-filter, permutation_along}
-use Rattle.ghost_shell.proofs.ShellLemmas.{map-flat_map}
+use Rattle.sums.proofs.Lists.{All-each, All-flat_map, IsPermutation-filter, exchange, filter_none, filter_same, filter-filter, filter-flat_map, filter-map, flat_map_same, flat_map-filter, map-flat_map, map-map, permutation_along}
 use Rattle.ghost_shell.proofs.ImageLemmas.{one_image, one_stays, short_parts, three_true}
-
-pub map-map : {X Y Z : Type 0} (f : Y → Z) (g : X → Y) (xs : List X) → map f (map g xs) ≡ map (λ x. f (g x)) xs
-map-map f g [] = refl
-map-map f g (x ∷ xs) = ap (λ (l : List _). f (g x) ∷ l) (map-map f g xs)
 
 -- tests of two parts
 both_true : (a b : Bool) → (a && b) ≡ true → (a ≡ true) × (b ≡ true)

@@ -12,11 +12,17 @@ read x = to_z w64 (of_z w64 x)
 abbrev wide : ℤ → ℤ
 wide x = to_z w128 (of_z w128 x)
 
-small_sum : (x y : ℤ) → unsigned_abs x ≤ 2 ^ 35 → unsigned_abs y ≤ 2 ^ 35 → read (read x +ℤ read y) ≡ x +ℤ y
-small_sum x y a b = omega (arith, ints)
-
 three : (x y z u v w : ℤ) → x ≡ u → y ≡ v → z ≡ w → x ∷ y ∷ z ∷ [] ≡ u ∷ v ∷ w ∷ []
 three x y z u v w f g h = cc
+
+pub read_short : (x : ℤ) → unsigned_abs x ≤ 2 ^ 35 → read x ≡ x
+read_short x short = omega (arith, ints)
+
+pub read_three : (x y z : ℤ) → unsigned_abs x ≤ 2 ^ 35 → unsigned_abs y ≤ 2 ^ 35 → unsigned_abs z ≤ 2 ^ 35 → read x ∷ read y ∷ read z ∷ [] ≡ x ∷ y ∷ z ∷ []
+read_three x y z f g h = three _ _ _ _ _ _ (read_short x f) (read_short y g) (read_short z h)
+
+small_sum : (x y : ℤ) → unsigned_abs x ≤ 2 ^ 35 → unsigned_abs y ≤ 2 ^ 35 → read (read x +ℤ read y) ≡ x +ℤ y
+small_sum x y a b = omega (arith, ints)
 
 pub moved_is : (p d : List ℤ) → IsNearBox p → IsNearBox d
     → read (read (x_of p) +ℤ read (x_of d)) ∷ read (read (y_of p) +ℤ read (y_of d)) ∷ read (read (z_of p) +ℤ read (z_of d)) ∷ [] ≡ moved p d

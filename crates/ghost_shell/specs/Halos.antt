@@ -1,10 +1,9 @@
 -- The halo of a brick as the code keeps it.
-use Rattle.std.specs.Prelude.{◌≡◌, ◌==◌, ◌&&◌, ◌||◌, Bool, not, ℕ, ℤ, ◌+ℤ◌, ◌-ℤ◌, int_lt, List}
+use Rattle.std.specs.Prelude.{◌≡◌, ◌==◌, ◌&&◌, ◌||◌, Bool, not, ℕ, ℤ, pos, ◌+ℤ◌, ◌-ℤ◌, int_lt, List, slice_index_or}
 use Rattle.box_geo.specs.declared.sim_box.Sides.{Sides}
-use Rattle.box_geo.specs.Sides.{x_of, y_of, z_of}
 use Rattle.rank_grid.specs.Bricks.{low_side, high_side}
 use Rattle.ghost_shell.specs.declared.halo.Halo.{Halo}
-use Rattle.ghost_shell.specs.Images.{is_around}
+use Rattle.ghost_shell.specs.Images.{is_around, is_beside}
 
 -- the halo of a rank
 pub record IsHalo (counts : List ℕ) (s : Sides) (rank : ℕ) (length : ℤ) (h : Halo) : Type 0 where
@@ -21,9 +20,15 @@ holds h p = is_around h.low h.high h.space h.reach p
 abbrev pub may_meet_along : ℤ → ℤ → ℤ → ℤ → ℤ → Bool
 may_meet_along low high reach from to = int_lt (low -ℤ reach) to && int_lt from (high +ℤ reach)
 
--- a moved brick may have positions in the halo; where not, it has none
-abbrev pub may_meet : Halo → List ℤ → List ℤ → List ℤ → Bool
-may_meet h low high shift =
-    may_meet_along (x_of h.low) (x_of h.high) h.reach (x_of low +ℤ x_of shift) (x_of high +ℤ x_of shift)
-    && (may_meet_along (y_of h.low) (y_of h.high) h.reach (y_of low +ℤ y_of shift) (y_of high +ℤ y_of shift)
-    && (not h.space || may_meet_along (z_of h.low) (z_of h.high) h.reach (z_of low +ℤ z_of shift) (z_of high +ℤ z_of shift)))
+-- the same along an axis by its number, 0 to 2, for a position moved by a length; z counts in space alone
+abbrev pub is_near_on : Halo → ℕ → List ℤ → ℤ → Bool
+is_near_on h axis p length =
+    ((axis == 2) && not h.space)
+    || is_beside (slice_index_or h.low axis (pos 0)) (slice_index_or h.high axis (pos 0)) h.reach (slice_index_or p axis (pos 0) +ℤ length)
+
+-- and for a brick of these sides: where not, no position of it is near
+abbrev pub may_meet_on : Halo → List ℤ → List ℤ → ℕ → ℤ → Bool
+may_meet_on h low high axis length =
+    ((axis == 2) && not h.space)
+    || may_meet_along (slice_index_or h.low axis (pos 0)) (slice_index_or h.high axis (pos 0)) h.reach
+    (slice_index_or low axis (pos 0) +ℤ length) (slice_index_or high axis (pos 0) +ℤ length)

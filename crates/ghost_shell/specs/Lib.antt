@@ -1,5 +1,6 @@
 pub mod Images
 pub mod Ghosts
 pub mod Halos
+pub mod Lengths
 pub mod Walks
 pub mod Lists

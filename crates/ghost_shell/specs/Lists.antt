@@ -1,5 +1,5 @@
 -- What the laws of ghosts speak of: the one image of a pair within reach, and the pairs of the lists of all bricks.
-use Rattle.std.specs.Prelude.{◌*◌, ◌&&◌, Bool, true, false, cond, nat_lt, ℕ, ℤ, pos, neg_ℤ, ◌-ℤ◌, ◌*ℤ◌, ◌≤ℤ◌, int_lt, List, [], ◌∷◌, map, flat_map, slice_index_or}
+use Rattle.std.specs.Prelude.{◌+◌, ◌*◌, ◌++◌, ◌&&◌, Bool, true, false, cond, nat_lt, ℕ, ℤ, pos, neg_ℤ, ◌-ℤ◌, ◌*ℤ◌, ◌≤ℤ◌, int_lt, List, [], ◌∷◌, map, flat_map, slice_index, slice_index_or}
 use Rattle.std.specs.List.{filter}
 use Rattle.std.specs.List.Sorted.{IsStrictlyIncreasing}
 use Rattle.box_geo.specs.declared.atoms.Atom.{Atom}
@@ -57,6 +57,19 @@ is_in_row reach own other = nat_lt own.id other.id && is_short reach (difference
 -- the rows of a brick, as pairs of places of atoms
 abbrev pub pairs_of_rows : ℕ → List Site → List Site → List (ℕ × ℕ)
 pairs_of_rows reach own sites = flat_map (λ a. map (λ b. (a.place, b.place)) (filter (is_in_row reach a) sites)) own
+
+-- sites with their places in their own list, from k on, in place of those of their atoms
+abbrev pub sites_numbered : ℕ → List Site → List Site
+sites_numbered k [] = []
+sites_numbered k (s ∷ sites) = record s { place = k } ∷ sites_numbered (k + 1) sites
+
+-- the places of the atoms of two sites of a list
+abbrev pub atom_places : List Site → ℕ × ℕ → ℕ × ℕ
+atom_places sites numbers = (slice_index (map (λ s. s.place) sites) numbers.0, slice_index (map (λ s. s.place) sites) numbers.1)
+
+-- the sites of a rank: its own atoms, then its ghosts
+abbrev pub rank_sites : List ℕ → Sides → List Atom → ℕ → List Ghost → List Site
+rank_sites counts s atoms rank shell = own_sites counts s atoms rank ++ sites_of shell
 
 -- the pairs of places of atoms that are nearer than the reach, the lesser place first, each once
 abbrev pub are_near : Sides → ℕ → (ℕ × Atom) × (ℕ × Atom) → Bool

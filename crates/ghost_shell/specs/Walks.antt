@@ -1,30 +1,34 @@
 -- What parts of the walk over the bricks find.
-use Rattle.std.specs.Prelude.{◌==◌, ◌&&◌, Bool, cond, not, ℕ, ℤ, List, [], map, flat_map, take, drop}
-use Rattle.std.specs.List.{filter}
+use Rattle.std.specs.Prelude.{◌==◌, ◌&&◌, Bool, cond, not, ℕ, ℤ, List, [], ◌∷◌, flat_map, take, drop}
 use Rattle.box_geo.specs.declared.atoms.Atom.{Atom}
 use Rattle.box_geo.specs.declared.sim_box.Sides.{Sides}
-use Rattle.rank_grid.specs.Bricks.{low_side, high_side}
 use Rattle.rank_grid.specs.Owned.{atoms_of_rank, numbered}
 use Rattle.ghost_shell.specs.declared.atom.Ghost.{Ghost}
 use Rattle.ghost_shell.specs.declared.halo.Halo.{Halo}
-use Rattle.ghost_shell.specs.Images.{position, stays}
+use Rattle.ghost_shell.specs.declared.visit.Visit.{Visit}
+use Rattle.ghost_shell.specs.Images.{position, shifts, stays}
 use Rattle.ghost_shell.specs.Ghosts.{ghost_of}
-use Rattle.ghost_shell.specs.Halos.{holds, may_meet}
+use Rattle.ghost_shell.specs.Halos.{holds}
 
 -- the atoms at some places, with their places
 abbrev pub atoms_at : List Atom → List ℕ → List (ℕ × Atom)
 atoms_at atoms places = flat_map (λ k. take 1 (drop k (numbered 0 atoms))) places
 
--- of some atoms, moved by one shift, the ghosts in a halo
-abbrev pub ghosts_by_shift : Halo → List ℤ → List (ℕ × Atom) → List Ghost
-ghosts_by_shift h shift atoms = map ghost_of (filter (λ p. holds h (position p)) (map (λ e. (e, shift)) atoms))
+-- the ghost that a shift makes of an atom where it brings it into a halo; one of the rank's own atoms where it stands is none
+abbrev pub ghost_by : Halo → Bool → ℕ × Atom → List ℤ → List Ghost
+ghost_by h own e shift = cond (holds h (position (e, shift)) && not (own && stays shift)) (ghost_of (e, shift) ∷ []) []
 
--- the ghosts of a rank that come from another, or the same, rank by one shift
-abbrev pub ghosts_from : List ℕ → Sides → List Atom → Halo → ℕ → List ℤ → ℕ → List Ghost
-ghosts_from counts s atoms h rank shift other =
-    cond ((other == rank) && stays shift) [] (ghosts_by_shift h shift (atoms_of_rank counts s atoms other))
+-- what a visit finds of one atom: by the lengths i along x and j along y, by i alone, and in all
+abbrev pub found_on_line : Visit → ℕ × Atom → ℤ → ℤ → List Ghost
+found_on_line v e i j = flat_map (λ k. ghost_by v.halo v.own e (i ∷ j ∷ k ∷ [])) v.lengths.z.items
 
--- a rank's atoms, moved by a shift, may be ghosts of another rank
-abbrev pub may_bring : List ℕ → Sides → Halo → ℕ → ℕ → List ℤ → Bool
-may_bring counts s h rank other shift =
-    not ((other == rank) && stays shift) && may_meet h (low_side counts s other) (high_side counts s other) shift
+abbrev pub found_on_plane : Visit → ℕ × Atom → ℤ → List Ghost
+found_on_plane v e i = flat_map (found_on_line v e i) v.lengths.y.items
+
+abbrev pub found_of : Visit → ℕ × Atom → List Ghost
+found_of v e = flat_map (found_on_plane v e) v.lengths.x.items
+
+-- the ghosts of a rank that come from another, or the same, rank
+abbrev pub ghosts_from : List ℕ → Sides → List Atom → Halo → ℕ → ℕ → List Ghost
+ghosts_from counts s atoms h rank other =
+    flat_map (λ e. flat_map (ghost_by h (other == rank) e) (shifts s)) (atoms_of_rank counts s atoms other)

@@ -1,11 +1,12 @@
 //! The halo of a brick: what lies within reach of it.
-ghost use Rattle.std.specs.Prelude.{◌≡◌, ◌<◌, ◌+ℤ◌, ◌-ℤ◌, int_lt, pos, slice_index_or};
+ghost use Rattle.std.specs.Prelude.{◌≡◌, ◌<◌, ◌+ℤ◌, ◌-ℤ◌, int_lt, pos, slice_index_or, unsigned_abs, ◌≤◌, ◌^◌, IfOk};
+ghost use Rattle.std.specs.List.{All, filter};
 ghost use Rattle.rank_grid.specs.Bricks.{ranks};
-ghost use Rattle.ghost_shell.specs.Images.{is_beside, moved};
-ghost use Rattle.ghost_shell.specs.Halos.{IsHalo, holds, may_meet, may_meet_along};
+ghost use Rattle.ghost_shell.specs.Halos.{IsHalo, is_near_on, may_meet_along, may_meet_on};
 
-use fx_num::V3;
+use fx_num::{NoMemory, V3};
 use rank_grid::Grid;
+use std::alloc::Global;
 
 /// What lies strictly within reach of a brick along each axis; z counts in space alone.
 #[derive(Clone, Copy)]
@@ -35,50 +36,59 @@ impl Halo {
         }
     }
 
-    /// Whether a position, moved by a shift, is in the halo.
-    pub fn holds(&self, p: &V3, shift: &V3) -> bool
-        ensures { result ≡ holds self.now (moved p.now shift.now) }
-    {
-        if !self.is_beside(0, p, shift) {
-            return false;
-        }
-        if !self.is_beside(1, p, shift) {
-            return false;
-        }
-        !self.space || self.is_beside(2, p, shift)
-    }
-
-    /// Whether a brick of these sides, moved by a shift, may have positions in the halo.
-    pub fn may_meet(&self, low: &V3, high: &V3, shift: &V3) -> bool
-        ensures { result ≡ may_meet self.now low.now high.now shift.now }
-    {
-        if !self.may_meet_along(0, low, high, shift) {
-            return false;
-        }
-        if !self.may_meet_along(1, low, high, shift) {
-            return false;
-        }
-        !self.space || self.may_meet_along(2, low, high, shift)
-    }
-
-    /// Whether a position, moved by a shift, is in the halo along one axis.
-    fn is_beside(&self, axis: usize, p: &V3, shift: &V3) -> bool
+    /// Whether a position, moved by a length along an axis, is near the brick along it.
+    pub fn is_near(&self, axis: usize, p: &V3, length: &i64) -> bool
         requires { axis < 3 }
-        ensures { result ≡ is_beside (slice_index_or self.now.low axis (pos 0)) (slice_index_or self.now.high axis (pos 0)) self.now.reach
-            (slice_index_or p.now axis (pos 0) +ℤ slice_index_or shift.now axis (pos 0)) }
+        ensures { result ≡ is_near_on self.now axis p.now length.now }
     {
-        is_above(self.low[axis], self.reach, p[axis], shift[axis])
-            && is_below(self.high[axis], self.reach, p[axis], shift[axis])
+        if axis == 2 && !self.space {
+            return true;
+        }
+        is_above(self.low[axis], self.reach, p[axis], *length)
+            && is_below(self.high[axis], self.reach, p[axis], *length)
     }
 
-    /// Whether a brick of these sides, moved by a shift, may have positions in the halo along one axis.
-    fn may_meet_along(&self, axis: usize, low: &V3, high: &V3, shift: &V3) -> bool
+    /// Of some lengths along an axis, those by which a brick of these sides may come near.
+    pub fn near_lengths(
+        &self,
+        alloc: Global,
+        axis: usize,
+        low: &V3,
+        high: &V3,
+        lengths: &[i64],
+    ) -> Result<Vec<i64>, NoMemory>
+        requires axis { axis < 3 }
+        requires short { All (λ i. unsigned_abs i ≤ 2 ^ 35) lengths.now }
+        ensures { IfOk result (λ v. v.items ≡ filter (may_meet_on self.now low.now high.now axis) lengths.now) }
+    {
+        let mut near = Vec::new(alloc);
+        for length in lengths {
+            if self.may_meet(axis, low, high, length) {
+                near.push(*length)?;
+            }
+        }
+        Ok(near)
+    }
+
+    /// Whether a brick of these sides, moved by a length along an axis, may be near along it.
+    fn may_meet(&self, axis: usize, low: &V3, high: &V3, length: &i64) -> bool
+        requires { axis < 3 }
+        ensures { result ≡ may_meet_on self.now low.now high.now axis length.now }
+    {
+        if axis == 2 && !self.space {
+            return true;
+        }
+        self.may_meet_along(axis, low, high, length)
+    }
+
+    /// The same where the axis counts.
+    fn may_meet_along(&self, axis: usize, low: &V3, high: &V3, length: &i64) -> bool
         requires { axis < 3 }
         ensures { result ≡ may_meet_along (slice_index_or self.now.low axis (pos 0)) (slice_index_or self.now.high axis (pos 0)) self.now.reach
-            (slice_index_or low.now axis (pos 0) +ℤ slice_index_or shift.now axis (pos 0)) (slice_index_or high.now axis (pos 0) +ℤ slice_index_or shift.now axis (pos 0)) }
+            (slice_index_or low.now axis (pos 0) +ℤ length.now) (slice_index_or high.now axis (pos 0) +ℤ length.now) }
     {
-        is_above(self.low[axis], self.reach, high[axis], shift[axis])
-            && is_below(self.high[axis], self.reach, low[axis], shift[axis])
+        is_above(self.low[axis], self.reach, high[axis], *length)
+            && is_below(self.high[axis], self.reach, low[axis], *length)
     }
 }
 

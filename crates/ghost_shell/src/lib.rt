@@ -11,9 +11,11 @@ mod atom;
 mod forward;
 mod halo;
 pub mod laws;
+mod lengths;
 mod moves;
 mod search;
 mod sites;
+mod visit;
 
 pub use atom::Ghost;
 pub use search::shell;

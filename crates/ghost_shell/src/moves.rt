@@ -1,27 +1,54 @@
-//! The shifts by which images are made of atoms.
-ghost use Rattle.std.specs.Prelude.{◌≡◌, ◌++◌, ◌∷◌, [], IfOk, OnOk, map, flat_map};
+//! The lengths and shifts by which images are made of atoms.
+ghost use Rattle.std.specs.Prelude.{◌≡◌, IfOk};
 ghost use Rattle.box_geo.specs.Sides.{IsSoundExtent, edge};
-ghost use Rattle.ghost_shell.specs.Images.{moved, shifts, shifts_along, stays};
+ghost use Rattle.ghost_shell.specs.Images.{moved, shifts_along, stays};
 ghost use Rattle.ghost_shell.specs.Ghosts.{IsNearBox};
+ghost use Rattle.ghost_shell.specs.Lengths.{AreLengths, AreNearLengths, are_some};
 
+use crate::halo::Halo;
+use crate::lengths::Lengths;
 use box_geo::{Extent, Sides, SimBox};
 use fx_num::{NoMemory, V3};
 use std::alloc::Global;
 
-/// All shifts of a box.
-#[tactic(auto, unfolding(crate::specs::Images::shifts))]
-pub(crate) fn shifts(alloc: Global, cell: &SimBox) -> Result<Vec<V3>, NoMemory>
-    ensures { IfOk result (λ v. v.items ≡ shifts cell.now.sides) }
-{
-    let Sides { x, y, z, .. } = cell.sides;
-    let xs = shifts_along(alloc, x.periodic, &x)?;
-    let ys = shifts_along(alloc, y.periodic, &y)?;
-    let zs = shifts_along(alloc, cell.z_wraps(), &z)?;
-    all_shifts(alloc, xs.as_slice(), ys.as_slice(), zs.as_slice())
+impl Lengths {
+    /// All lengths of a box.
+    pub fn of(alloc: Global, cell: &SimBox) -> Result<Lengths, NoMemory>
+        ensures { IfOk result (AreLengths cell.now.sides) }
+    {
+        let Sides { x, y, z, .. } = cell.sides;
+        let x = lengths_along(alloc, x.periodic, &x)?;
+        let y = lengths_along(alloc, y.periodic, &y)?;
+        let z = lengths_along(alloc, cell.z_wraps(), &z)?;
+        Ok(Lengths { x, y, z })
+    }
+
+    /// Those by which a brick of these sides may come near the halo.
+    pub fn near(&self, alloc: Global, halo: &Halo, low: &V3, high: &V3) -> Result<Lengths, NoMemory>
+        ensures { IfOk result (AreNearLengths halo.now low.now high.now self.now) }
+    {
+        let x = halo.near_lengths(alloc, 0, low, high, &self.x)?;
+        let y = halo.near_lengths(alloc, 1, low, high, &self.y)?;
+        let z = halo.near_lengths(alloc, 2, low, high, &self.z)?;
+        Ok(Lengths { x, y, z })
+    }
+
+    /// Whether there is one for each axis.
+    pub fn are_some(&self) -> bool
+        ensures { result ≡ are_some self.now }
+    {
+        if self.x.is_empty() {
+            return false;
+        }
+        if self.y.is_empty() {
+            return false;
+        }
+        !self.z.is_empty()
+    }
 }
 
 /// The lengths by which images are moved along an axis.
-fn shifts_along(alloc: Global, wraps: bool, extent: &Extent) -> Result<Vec<i64>, NoMemory>
+fn lengths_along(alloc: Global, wraps: bool, extent: &Extent) -> Result<Vec<i64>, NoMemory>
     requires { IsSoundExtent extent.now }
     ensures { IfOk result (λ v. v.items ≡ shifts_along wraps (edge extent.now)) }
 {
@@ -35,37 +62,6 @@ fn shifts_along(alloc: Global, wraps: bool, extent: &Extent) -> Result<Vec<i64>,
         list.push(edge)?;
     }
     Ok(list)
-}
-
-/// The shifts by these lengths along the axes.
-fn all_shifts(alloc: Global, xs: &[i64], ys: &[i64], zs: &[i64]) -> Result<Vec<V3>, NoMemory>
-    ensures { IfOk result (λ v. v.items ≡ flat_map (λ i. flat_map (λ j. map (λ k. i ∷ j ∷ k ∷ []) zs.now) ys.now) xs.now) }
-{
-    let mut list = Vec::new(alloc);
-    for x in xs {
-        push_plane(&mut list, x, ys, zs)?;
-    }
-    Ok(list)
-}
-
-/// Appends the shifts by `x` along x.
-fn push_plane(list: &mut Vec<V3>, x: &i64, ys: &[i64], zs: &[i64]) -> Result<(), NoMemory>
-    ensures { OnOk result (list.new.items ≡ list.old.items ++ flat_map (λ j. map (λ k. x.now ∷ j ∷ k ∷ []) zs.now) ys.now) }
-{
-    for y in ys {
-        push_line(list, x, y, zs)?;
-    }
-    Ok(())
-}
-
-/// Appends the shifts by `x` and `y` along these axes.
-fn push_line(list: &mut Vec<V3>, x: &i64, y: &i64, zs: &[i64]) -> Result<(), NoMemory>
-    ensures { OnOk result (list.new.items ≡ list.old.items ++ map (λ k. x.now ∷ y.now ∷ k ∷ []) zs.now) }
-{
-    for z in zs {
-        list.push([*x, *y, *z])?;
-    }
-    Ok(())
 }
 
 /// Whether a shift moves nothing.

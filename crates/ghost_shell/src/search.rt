@@ -1,21 +1,22 @@
-//! The search for the ghosts of a rank: for each shift a walk over the bricks that, moved, may meet the
-//! halo, and over their atoms.
-ghost use Rattle.std.specs.Prelude.{◌≡◌, ◌++◌, ◌∷◌, [], ◌<◌, ◌≤◌, ◌^◌, ℕ, pos, All, IfOk, OnOk, length, flat_map, unsigned_abs};
-ghost use Rattle.std.specs.List.{range_with_len};
+//! The search for the ghosts of a rank: one walk over the bricks that, moved, may meet its halo, and over
+//! their atoms.
+ghost use Rattle.std.specs.Prelude.{◌≡◌, ◌++◌, ◌<◌, ◌≤◌, All, IfOk, OnOk, length};
 ghost use Rattle.std.specs.List.Sorted.{IsPermutation};
 ghost use Rattle.box_geo.specs.Sides.{IsInside};
 ghost use Rattle.rank_grid.specs.Bricks.{ranks};
 ghost use Rattle.rank_grid.specs.Owned.{AreOwned};
-ghost use Rattle.ghost_shell.specs.Ghosts.{IsGhostOf, IsNearBox, ghost_of, ghosts};
-ghost use Rattle.ghost_shell.specs.Walks.{atoms_at, ghosts_by_shift, ghosts_from, may_bring};
+ghost use Rattle.ghost_shell.specs.Ghosts.{IsGhostOf, ghosts};
+ghost use Rattle.ghost_shell.specs.Lengths.{AreLengths};
+ghost use Rattle.ghost_shell.specs.Walks.{ghosts_from};
 
 use crate::atom::Ghost;
 use crate::halo::Halo;
-use crate::moves::{moved, shifts, stays};
+use crate::lengths::Lengths;
 use crate::sites::Shell;
+use crate::visit::Visit;
 use box_geo::limits::MAX_ATOMS;
-use box_geo::{Atom, Atoms, Site};
-use fx_num::{NoMemory, V3};
+use box_geo::{Atom, Atoms};
+use fx_num::NoMemory;
 use rank_grid::{Grid, Owned};
 use std::alloc::Global;
 
@@ -24,8 +25,9 @@ use std::alloc::Global;
 /// side and the reach, without the rank's own atoms where they stand. In two dimensions z is neither
 /// shifted nor tested.
 ///
-/// All atoms are inside the box, and `owned` is what [`Grid::migrate`] gives for them. The time grows
-/// with the atoms of the bricks that are near, one walk for each shift that brings a brick near.
+/// All atoms are inside the box, and `owned` is what [`Grid::migrate`] gives for them. Each atom of a
+/// brick that some shift may bring near is looked at once, along each axis by the lengths that may
+/// bring its brick near; so the time grows with the atoms of these bricks and the ghosts.
 ///
 /// # Errors
 ///
@@ -53,7 +55,7 @@ pub fn shell(
     })
 }
 
-/// The ghosts of a rank, shift by shift.
+/// The ghosts of a rank, brick by brick.
 fn find(
     alloc: Global,
     grid: &Grid,
@@ -67,102 +69,54 @@ fn find(
     requires rank { rank < ranks grid.now.counts }
     ensures { IfOk result (λ v. IsPermutation (ghosts grid.now.counts grid.now.cell.sides rank reach atoms.now) v.items) }
 {
-    let halo = Halo::of(grid, rank, reach);
-    let shifts = shifts(alloc, &grid.cell)?;
+    let search = Search {
+        halo: Halo::of(grid, rank, reach),
+        lengths: Lengths::of(alloc, &grid.cell)?,
+        rank,
+    };
     let mut ghosts = Vec::new(alloc);
-    for shift in &shifts {
-        push_shifted(&mut ghosts, grid, atoms, owned, &halo, rank, shift)?;
+    for other in 0..grid.ranks() {
+        search.push_from(alloc, &mut ghosts, grid, atoms, owned, other)?;
     }
     Ok(ghosts)
 }
 
-/// Appends the ghosts that one shift brings, brick by brick.
-fn push_shifted(
-    ghosts: &mut Vec<Ghost>,
-    grid: &Grid,
-    atoms: &[Atom],
-    owned: &Owned,
-    halo: &Halo,
+/// The search for the ghosts of a rank.
+#[derive(Drop)]
+struct Search {
+    halo: Halo,
+    lengths: Lengths,
     rank: u32,
-    shift: &V3,
-) -> Result<(), NoMemory>
-    requires inside { All (λ a. IsInside grid.now.cell.sides a.x) atoms.now }
-    requires owned { AreOwned grid.now.counts grid.now.cell.sides atoms.now owned.now }
-    requires shift { IsNearBox shift.now }
-    ensures { OnOk result (ghosts.new.items ≡ ghosts.old.items ++ flat_map (ghosts_from grid.now.counts grid.now.cell.sides atoms.now halo.now rank shift.now) (range_with_len 0 (ranks grid.now.counts))) }
-{
-    for other in 0..grid.ranks() {
-        if brings(grid, halo, rank, other, shift) {
-            push_brick(ghosts, atoms, owned.row(other), halo, shift)?;
+}
+
+impl Search {
+    /// Appends the ghosts that are images of the atoms of one brick.
+    fn push_from(
+        &self,
+        alloc: Global,
+        ghosts: &mut Vec<Ghost>,
+        grid: &Grid,
+        atoms: &[Atom],
+        owned: &Owned,
+        other: u32,
+    ) -> Result<(), NoMemory>
+        requires inside { All (λ a. IsInside grid.now.cell.sides a.x) atoms.now }
+        requires owned { AreOwned grid.now.counts grid.now.cell.sides atoms.now owned.now }
+        requires lengths { AreLengths grid.now.cell.sides self.now.lengths }
+        requires other { other < ranks grid.now.counts }
+        ensures { OnOk result (ghosts.new.items ≡ ghosts.old.items ++ ghosts_from grid.now.counts grid.now.cell.sides atoms.now self.now.halo self.now.rank other) }
+    {
+        let (low, high) = grid.brick(other);
+        let lengths = self.lengths.near(alloc, &self.halo, &low, &high)?;
+        if !lengths.are_some() {
+            return Ok(());
         }
-    }
-    Ok(())
-}
-
-/// Whether a rank's atoms, moved by a shift, may be ghosts: not the same rank's where they stand, nor
-/// those of a brick that is out of reach.
-fn brings(grid: &Grid, halo: &Halo, rank: u32, other: u32, shift: &V3) -> bool
-    requires { other < ranks grid.now.counts }
-    ensures { result ≡ may_bring grid.now.counts grid.now.cell.sides halo.now rank other shift.now }
-{
-    if other == rank && stays(shift) {
-        return false;
-    }
-    let (low, high) = grid.brick(other);
-    halo.may_meet(&low, &high, shift)
-}
-
-/// Appends the ghosts among the atoms at some places, moved by a shift.
-fn push_brick(
-    ghosts: &mut Vec<Ghost>,
-    atoms: &[Atom],
-    places: &[u32],
-    halo: &Halo,
-    shift: &V3,
-) -> Result<(), NoMemory>
-    requires places { All (λ k. k < length atoms.now) places.now }
-    requires inside { All (λ a. IsNearBox a.x) atoms.now }
-    requires shift { IsNearBox shift.now }
-    ensures { OnOk result (ghosts.new.items ≡ ghosts.old.items ++ ghosts_by_shift halo.now shift.now (atoms_at atoms.now places.now)) }
-{
-    for place in places {
-        push_image(ghosts, *place, &atoms[*place as usize], halo, shift)?;
-    }
-    Ok(())
-}
-
-/// Appends the ghost of the atom at a place, moved by a shift, where it is in the halo.
-fn push_image(
-    ghosts: &mut Vec<Ghost>,
-    place: u32,
-    atom: &Atom,
-    halo: &Halo,
-    shift: &V3,
-) -> Result<(), NoMemory>
-    requires atom { IsNearBox atom.now.x }
-    requires shift { IsNearBox shift.now }
-    ensures { OnOk result (ghosts.new.items ≡ ghosts.old.items ++ ghosts_by_shift halo.now shift.now ((place, atom.now) ∷ [])) }
-{
-    if halo.holds(&atom.x, shift) {
-        ghosts.push(ghost_of(place, atom, shift))?;
-    }
-    Ok(())
-}
-
-/// The ghost that is made of the atom at a place, moved by a shift.
-fn ghost_of(place: u32, atom: &Atom, shift: &V3) -> Ghost
-    requires x { IsNearBox atom.now.x }
-    requires shift { IsNearBox shift.now }
-    ensures { result ≡ ghost_of ((place, atom.now), shift.now) }
-{
-    let x = moved(&atom.x, shift);
-    Ghost {
-        site: Site {
-            x,
-            id: atom.id,
-            place,
-        },
-        built: x,
-        reference: atom.x,
+        let visit = Visit {
+            halo: self.halo,
+            lengths,
+            own: other == self.rank,
+        };
+        visit.push_brick(ghosts, atoms, owned.row(other))?;
+        Ok(())
     }
 }

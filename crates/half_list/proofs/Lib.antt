@@ -1,2 +1,1 @@
-pub mod Permutations
 pub mod RowLemmas

@@ -11,7 +11,7 @@ use Rattle.cell_bins.specs.Around.{joined}
 use Rattle.cell_bins.specs.Near.{IsNear, Meets}
 use Rattle.half_list.specs.Neighbours.{is_listed, is_near, neighbours}
 use Rattle.half_list.specs.Rows.{AppendsRow, HasRows, row_at}
-use Rattle.half_list.proofs.Permutations.{IsPermutation-filter}
+use Rattle.sums.proofs.Lists.{IsPermutation-filter}
 
 -- neighbours among joined lists
 pub neighbours-append : (reach : ℕ) (own : Site) (xs ys : List Site) → neighbours reach own (xs ++ ys) ≡ neighbours reach own xs ++ neighbours reach own ys

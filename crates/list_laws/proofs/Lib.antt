@@ -1,3 +1,5 @@
+pub mod BuildLemmas
 pub mod LengthLemmas
 pub mod PairLemmas
 pub mod SkinLemmas
+pub mod MovedLemmas

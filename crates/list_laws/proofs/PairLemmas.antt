@@ -9,13 +9,9 @@ use Rattle.std.proofs.lemmas.List.Sorted.{IsPermutation-append, IsPermutation-ma
 use Rattle.box_geo.specs.declared.atoms.Atom.{Atom}
 use Rattle.box_geo.specs.declared.atoms.Site.{Site}
 use Rattle.half_list.specs.Neighbours.{is_listed, is_near, neighbours}
-use Rattle.half_list.proofs.Permutations.{IsPermutation-flat_map}
+use Rattle.sums.proofs.Lists.{IsPermutation-flat_map, map-map}
 use Rattle.list_laws.specs.Pairs.{AreRows, IdsRise, ShowNear, greater_near, pairs_of, site_of, sites_from}
 use Rattle.sums.specs.Totals.{half}
-
-map_twice : {X Y Z : Type 0} (f : Y → Z) (g : X → Y) (xs : List X) → map f (map g xs) ≡ map (λ x. f (g x)) xs
-map_twice f g [] = refl
-map_twice f g (x ∷ xs) = ap (λ rest. f (g x) ∷ rest) (map_twice f g xs)
 
 -- the row of a site is that of its atom
 pub row_of_atoms : (near : Atom × Atom → Bool) (reach : ℕ) (atoms : List Atom) (sites : List Site) (atom_at : ℕ → Atom) (own_site : Site) (own : Atom) (row : List ℕ)
@@ -24,7 +20,7 @@ pub row_of_atoms : (near : Atom × Atom → Bool) (reach : ℕ) (atoms : List At
 row_of_atoms near reach atoms sites atom_at own_site own row shown listed =
     let there : List Site = filter (is_listed reach own_site) sites in
     IsPermutation-trans (greater_near near atoms own) (map (λ (s : Site). atom_at s.place) there) (map atom_at row) shown
-    (subst (λ l. IsPermutation l (map atom_at row)) (map_twice atom_at (λ (s : Site). s.place) there)
+    (subst (λ l. IsPermutation l (map atom_at row)) (map-map atom_at (λ (s : Site). s.place) there)
     (IsPermutation-map atom_at (neighbours reach own_site sites) row listed))
 
 -- sites without images show each atom at its place

@@ -12,19 +12,19 @@ use Rattle.serial_step.specs.Rebuild.{is_far, renews}
 use Rattle.list_laws.proofs.LengthLemmas.{within_skin}
 
 -- a whole number of edges apart, by two counts
-record AreApart (e : ℕ) (s t : ℤ) : Type 0 where
-  i : ℕ
-  j : ℕ
-  is : s +ℤ pos (i * e) ≡ t +ℤ pos (j * e)
+pub record AreApart (e : ℕ) (s t : ℤ) : Type 0 where
+  pub i : ℕ
+  pub j : ℕ
+  pub is : s +ℤ pos (i * e) ≡ t +ℤ pos (j * e)
 
 -- of such numbers one of at most half an edge is the shortest
-shortest_by : (e i j : ℕ) (s t : ℤ) → s +ℤ pos (i * e) ≡ t +ℤ pos (j * e) → 2 * unsigned_abs s ≤ e → unsigned_abs s ≤ unsigned_abs t
+pub shortest_by : (e i j : ℕ) (s t : ℤ) → s +ℤ pos (i * e) ≡ t +ℤ pos (j * e) → 2 * unsigned_abs s ≤ e → unsigned_abs s ≤ unsigned_abs t
 shortest_by e zero zero s t is half = omega (arith, ints)
 shortest_by e zero (suc j) s t is half = omega (arith, ints)
 shortest_by e (suc i) zero s t is half = omega (arith, ints)
 shortest_by e (suc i) (suc j) s t is half = shortest_by e i j s t (omega (arith, ints)) half
 
-near_half : (e : ℕ) (d : ℤ) → unsigned_abs d ≤ e → 2 * unsigned_abs (near_along true (pos e) d) ≤ e
+pub near_half : (e : ℕ) (d : ℤ) → unsigned_abs d ≤ e → 2 * unsigned_abs (near_along true (pos e) d) ≤ e
 near_half e d within = grind (arith, ints)
 
 by_tests : (above below : Bool) (e : ℕ) (d : ℤ) → AreApart e (cond above (d -ℤ pos e) (cond below (d +ℤ pos e) d)) d
@@ -32,17 +32,17 @@ by_tests true below e d = record { i = 1; j = 0; is = omega (arith, ints) }
 by_tests false true e d = record { i = 0; j = 1; is = omega (arith, ints) }
 by_tests false false e d = record { i = 0; j = 0; is = omega (arith, ints) }
 
-near_apart : (e : ℕ) (d : ℤ) → AreApart e (near_along true (pos e) d) d
+pub near_apart : (e : ℕ) (d : ℤ) → AreApart e (near_along true (pos e) d) d
 near_apart e d = by_tests (int_lt (pos e) (pos 2 *ℤ d)) (int_lt (pos 2 *ℤ d) (neg_ℤ (pos e))) e d
 
-AreApart-around : (e : ℕ) (m l n k p q r t : ℤ) → AreApart e m p → AreApart e l q → AreApart e n r → AreApart e k t → t ≡ p -ℤ q +ℤ r → AreApart e k (m -ℤ l +ℤ n)
+pub AreApart-around : (e : ℕ) (m l n k p q r t : ℤ) → AreApart e m p → AreApart e l q → AreApart e n r → AreApart e k t → t ≡ p -ℤ q +ℤ r → AreApart e k (m -ℤ l +ℤ n)
 AreApart-around e m l n k p q r t f g h w is = record {
   i = w.i + f.j + g.i + h.j;
   j = w.j + f.i + g.j + h.i;
   is = omega (arith, ints, f.is, g.is, h.is, w.is, is);
 }
 
-around : (m l n k : ℤ) → unsigned_abs k ≤ unsigned_abs (m -ℤ l +ℤ n) → unsigned_abs k ≤ unsigned_abs m + unsigned_abs l + unsigned_abs n
+pub around : (m l n k : ℤ) → unsigned_abs k ≤ unsigned_abs (m -ℤ l +ℤ n) → unsigned_abs k ≤ unsigned_abs m + unsigned_abs l + unsigned_abs n
 around m l n k h = omega (arith, ints)
 
 -- along one axis
@@ -58,7 +58,7 @@ three_steps true (pos e) a b u v some within =
     let w = AreApart-around e m l n k (a -ℤ b) (a -ℤ u) (b -ℤ v) (u -ℤ v) (near_apart e (a -ℤ b)) (near_apart e (a -ℤ u)) (near_apart e (b -ℤ v)) (near_apart e (u -ℤ v)) (omega (arith, ints)) in
     around m l n k (shortest_by e w.i w.j k (m -ℤ l +ℤ n) w.is (near_half e (u -ℤ v) (omega arith)))
 
-not_below : (m n : ℕ) → nat_lt m n ≡ false → n ≤ m
+pub not_below : (m n : ℕ) → nat_lt m n ≡ false → n ≤ m
 not_below m n h = grind (arith, nat_tests)
 
 along : (e : Extent) (wraps : Bool) (a b u v : ℤ) → Holds e u → Holds e v

@@ -2,9 +2,14 @@
 //! that their rows are the near pairs, each once. Empty functions, whose clauses are the laws.
 #![tactic(auto)]
 
+mod build;
 mod pairs;
 mod skin;
 
+pub use build::{
+    lists_have_the_near_pairs_until_the_next_build,
+    sites_stand_at_the_nearest_image_until_the_next_build,
+};
 pub use pairs::{
     rows_are_the_near_pairs, rows_of_sites_are_rows_of_atoms, sites_without_images_show_each_atom,
 };

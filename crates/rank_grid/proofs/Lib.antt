@@ -1,4 +1,3 @@
 pub mod SideLemmas
 pub mod RankLemmas
-pub mod PartLemmas
 pub mod OwnedLemmas

@@ -1,6 +1,6 @@
 -- The atoms that a rank owns, by their places in the list of atoms.
-use Rattle.std.specs.Prelude.{◌≡◌, ◌+◌, ◌-◌, ◌==◌, ◌<◌, ℕ, List, [], ◌∷◌, length, map, take, drop, slice_index}
-use Rattle.std.specs.List.{filter}
+use Rattle.std.specs.Prelude.{◌≡◌, ◌+◌, ◌-◌, ◌==◌, ◌<◌, ℕ, List, [], ◌∷◌, length, map, take, drop, reverse, slice_index}
+use Rattle.std.specs.List.{filter, range_with_len}
 use Rattle.box_geo.specs.declared.atoms.Atom.{Atom}
 use Rattle.box_geo.specs.declared.sim_box.Sides.{Sides}
 use Rattle.rank_grid.specs.declared.owned.Owned.{Owned}
@@ -22,6 +22,13 @@ places_owned counts s atoms rank = map (λ e. e.0) (atoms_of_rank counts s atoms
 -- the places at which a rank stands in a list of owners
 abbrev pub places_where : List ℕ → ℕ → List ℕ
 places_where owners rank = map (λ e. e.0) (filter (λ e. e.1 == rank) (numbered 0 owners))
+
+-- the rank that stands at a place, and the places from the last to the first
+abbrev pub owner_at : List ℕ → ℕ → ℕ
+owner_at owners place = slice_index owners place
+
+abbrev pub places_back : List ℕ → List ℕ
+places_back owners = reverse (range_with_len 0 (length owners))
 
 -- the row of a number in compressed rows: the places between two starts
 abbrev pub row_at : List ℕ → List ℕ → ℕ → List ℕ

@@ -12,6 +12,7 @@ pub mod laws;
 mod migrate;
 mod owned;
 mod rows;
+mod sorting;
 
 pub use grid::Grid;
 pub use owned::Owned;

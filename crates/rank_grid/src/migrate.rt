@@ -1,12 +1,12 @@
 //! Migration: each atom goes to the rank of the brick that holds it.
-ghost use Rattle.std.specs.Prelude.{◌≡◌, ◌+◌, ◌++◌, ◌==◌, ◌<◌, ◌≤◌, ◌^◌, ℕ, All, IfOk, OnOk, map, length};
-ghost use Rattle.std.specs.List.{filter};
+ghost use Rattle.std.specs.Prelude.{◌≡◌, ◌≤◌, All, IfOk, map, length};
 ghost use Rattle.box_geo.specs.Sides.{IsInside};
 ghost use Rattle.rank_grid.specs.Bricks.{owner};
-ghost use Rattle.rank_grid.specs.Owned.{AreOwned, places_where};
+ghost use Rattle.rank_grid.specs.Owned.{AreOwned};
 
 use crate::grid::Grid;
 use crate::owned::Owned;
+use crate::sorting::sorted;
 use box_geo::limits::MAX_ATOMS;
 use box_geo::{Atom, Atoms};
 use fx_num::NoMemory;
@@ -24,12 +24,7 @@ impl Grid {
         ensures { IfOk result (AreOwned self.now.counts self.now.cell.sides atoms.now) }
     {
         let owners = self.owners(alloc, atoms.as_slice())?;
-        let mut starts = vec![in alloc; 0]?;
-        let mut places = Vec::new(alloc);
-        for rank in 0..self.ranks() {
-            push_row(&mut places, &owners, rank)?;
-            starts.push(places.len() as u32)?;
-        }
+        let (starts, places) = sorted(alloc, &owners, self.ranks())?;
         Ok(Owned { starts, places })
     }
 
@@ -45,17 +40,4 @@ impl Grid {
         }
         Ok(list)
     }
-}
-
-/// Appends the places at which a rank stands.
-fn push_row(places: &mut Vec<u32>, owners: &[u32], rank: u32) -> Result<(), NoMemory>
-    requires { length owners.now ≤ MAX_ATOMS }
-    ensures { OnOk result (places.new.items ≡ places.old.items ++ places_where owners.now rank) }
-{
-    for (place, owner) in owners.iter().enumerate() {
-        if *owner == rank {
-            places.push(place as u32)?;
-        }
-    }
-    Ok(())
 }

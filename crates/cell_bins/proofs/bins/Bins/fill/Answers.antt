@@ -1,6 +1,8 @@
 use Rattle.std.proofs.Common.{List, IsPermutation, subst}
 use Rattle.box_geo.specs.declared.atoms.Site.{Site}
-use Rattle.cell_bins.proofs.BinLemmas.{cells_are, same_sites, starts_rise, starts_within}
+use Rattle.cell_bins.proofs.BinLemmas.{cells_are, same_sites}
+use Rattle.cell_bins.specs.Cells.{count_of, number_at}
+use Rattle.sums.proofs.Sorting.{starts_rise, starts_within}
 use Rattle.cell_bins.proofs.bins.Bins.fill.Goals as goal
 
 pub invariant_of-result : goal.invariant_of-result
@@ -12,8 +14,8 @@ invariant_of-result c =
     let h = c.in_ok-starts.ensures in
     record {
       long = h.long;
-      order = starts_rise cells sites starts sorted h;
-      within = starts_within cells sites starts sorted h;
+      order = starts_rise (λ (s : Site). number_at cells s.x) (count_of cells) sites starts sorted h;
+      within = starts_within (λ (s : Site). number_at cells s.x) (count_of cells) sites starts sorted h;
       parts = cells_are cells sites starts sorted h;
     }
 

@@ -1,5 +1,6 @@
 -- How large a pressure and its dividend are.
-use Rattle.std.proofs.Common.{◌≡◌, ◌+◌, ◌*◌, ◌^◌, ◌<◌, ◌≤◌, ℕ, ℤ, pos, ◌+ℤ◌, ◌*ℤ◌, unsigned_abs, refl, ap, subst, arith}
+use Rattle.std.proofs.Common.{◌≡◌, ◌≢◌, ⊎_elim, ◌+◌, ◌*◌, ◌^◌, ◌<◌, ◌≤◌, ℕ, ℤ, pos, ◌+ℤ◌, ◌*ℤ◌, unsigned_abs, refl, ap, subst, arith}
+use Rattle.std.proofs.lemmas.Bool.{cases_lt}
 use Rattle.std.proofs.lemmas.Int.{ints}
 use Rattle.std.proofs.lemmas.Nat.{mul-le, pow_pos}
 use Rattle.fx_num.specs.Rounding.{RoundsTo, nearest_of, shr_rounded}
@@ -7,7 +8,7 @@ use Rattle.fx_num.proofs.RoundingLemmas.{nearest_of-le, nearest_rounds, unsigned
 use Rattle.box_geo.specs.declared.sim_box.Extent.{Extent}
 use Rattle.box_geo.specs.declared.sim_box.Sides.{Sides}
 use Rattle.box_geo.specs.Sides.{IsSound, IsSoundExtent, edge, volume_of}
-use Rattle.box_geo.proofs.NearLemmas.{volume_bounds, volume_of-space}
+use Rattle.box_geo.proofs.NearLemmas.{volume_bounds, volume_of-plane, volume_of-space}
 use Rattle.computes.specs.Quantities.{pressure}
 use Rattle.computes.proofs.QuotientLemmas.{quotient_bound}
 
@@ -72,10 +73,10 @@ product_below s sound space =
     half_kept (x * y * z) (volume_of s) (large x y z (long s.x sound.0) (long s.y sound.1) (long s.z sound.2)) rounds
 
 -- a pressure in space has its bound even for the virial of as many pairs as there may be
-pub pressure_fits : (s w : ℤ) (sides : Sides) → IsSound sides → sides.dim ≡ 3 → unsigned_abs s ≤ 2 ^ 116
+fits_in_space : (s w : ℤ) (sides : Sides) → IsSound sides → sides.dim ≡ 3 → unsigned_abs s ≤ 2 ^ 116
     → unsigned_abs w ≤ 2 ^ 81 * (unsigned_abs (edge sides.x) + unsigned_abs (edge sides.y) + unsigned_abs (edge sides.z)) → unsigned_abs (pressure s w sides) ≤ 2 ^ 98
 unfolding pressure
-pressure_fits s w sides sound space kinetic virial =
+fits_in_space s w sides sound space kinetic virial =
     let x : ℕ = unsigned_abs (edge sides.x) in
     let y : ℕ = unsigned_abs (edge sides.y) in
     let z : ℕ = unsigned_abs (edge sides.z) in
@@ -91,3 +92,39 @@ pressure_fits s w sides sound space kinetic virial =
     quotient_bound ((shr_rounded s 48 +ℤ shr_rounded w 24) *ℤ pos (2 ^ 24)) (sides.dim * v) (2 ^ 98)
     (omega (arith, volume_bounds sides sound))
     (omega (arith, dividend_parts (shr_rounded s 48) (shr_rounded w 24)))
+
+-- the area of a box in the plane is at least 2^12 units
+wide : (x y : ℕ) → IsSpan x → IsSpan y → 2 ^ 12 ≤ nearest_of (x * y) (2 ^ 24)
+wide x y f g = let r : RoundsTo (x * y) (2 ^ 24) (nearest_of (x * y) (2 ^ 24)) = nearest_rounds (x * y) (2 ^ 24) (omega arith) in omega (arith, face x y f g, r.at_least)
+
+area_above : (sides : Sides) → IsSound sides → sides.dim ≡ 2 → 2 ^ 12 ≤ volume_of sides
+area_above sides sound plane =
+    let x : ℕ = unsigned_abs (edge sides.x) in
+    let y : ℕ = unsigned_abs (edge sides.y) in
+    let differ : sides.dim ≢ 3 = λ space. cc in
+    subst (λ (v : ℕ). 2 ^ 12 ≤ v) (volume_of-plane sides x y differ refl refl) (wide x y (long sides.x sound.0) (long sides.y sound.1))
+
+dividend_in_plane : (r q v : ℕ) → r ≤ 2 ^ 68 → q ≤ 3 * 2 ^ 85 → 2 ^ 12 ≤ v → (r + q) * 2 ^ 24 ≤ 2 ^ 98 * (2 * v)
+dividend_in_plane r q v kinetic virial large = omega arith
+
+-- so has one in the plane, as no cutoff is longer than 2^28
+fits_in_plane : (s w : ℤ) (sides : Sides) → IsSound sides → sides.dim ≡ 2 → unsigned_abs s ≤ 2 ^ 116 → unsigned_abs w ≤ 3 * 2 ^ 109 → unsigned_abs (pressure s w sides) ≤ 2 ^ 98
+unfolding pressure
+fits_in_plane s w sides sound plane kinetic virial =
+    let v : ℕ = volume_of sides in
+    let r : unsigned_abs (shr_rounded s 48) ≤ 2 ^ 68 = shifted_bound s 48 (2 ^ 68) kinetic in
+    let q : unsigned_abs (shr_rounded w 24) ≤ 3 * 2 ^ 85 = shifted_bound w 24 (3 * 2 ^ 85) (omega arith) in
+    let low : (unsigned_abs (shr_rounded s 48) + unsigned_abs (shr_rounded w 24)) * 2 ^ 24 ≤ 2 ^ 98 * (2 * v) =
+    dividend_in_plane _ _ v r q (area_above sides sound plane) in
+    let directions : sides.dim * v ≡ 2 * v = ap (λ (n : ℕ). n * v) plane in
+    quotient_bound ((shr_rounded s 48 +ℤ shr_rounded w 24) *ℤ pos (2 ^ 24)) (sides.dim * v) (2 ^ 98)
+    (omega (arith, volume_bounds sides sound))
+    (omega (arith, dividend_parts (shr_rounded s 48) (shr_rounded w 24)))
+
+pub pressure_fits : (s w : ℤ) (sides : Sides) → IsSound sides → unsigned_abs s ≤ 2 ^ 116 → unsigned_abs w ≤ 3 * 2 ^ 109
+    → unsigned_abs w ≤ 2 ^ 81 * (unsigned_abs (edge sides.x) + unsigned_abs (edge sides.y) + unsigned_abs (edge sides.z)) → unsigned_abs (pressure s w sides) ≤ 2 ^ 98
+pressure_fits s w sides sound kinetic reached virial =
+    ⊎_elim
+    (λ (flat : sides.dim < 3). fits_in_plane s w sides sound (omega (arith, sound.3)) kinetic reached)
+    (λ (deep : 3 ≤ sides.dim). fits_in_space s w sides sound (omega (arith, sound.4)) kinetic virial)
+    (cases_lt sides.dim 3)

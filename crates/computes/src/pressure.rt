@@ -15,7 +15,7 @@ pub fn press(s: i128, w: i128, cell: &SimBox) -> i128
     requires virial { unsigned_abs w ≤ 2 ^ 121 }
     ensures is { result ≡ pressure s w cell.now.sides }
     ensures small { unsigned_abs s ≤ 2 ^ 112 → unsigned_abs w ≤ 2 ^ 80 → unsigned_abs result ≤ 2 ^ 98 }
-    ensures fits { cell.now.sides.dim ≡ 3 → unsigned_abs s ≤ 2 ^ 116
+    ensures fits { unsigned_abs s ≤ 2 ^ 116 → unsigned_abs w ≤ 3 * 2 ^ 109
         → unsigned_abs w ≤ 2 ^ 81 * (unsigned_abs (edge cell.now.sides.x) + unsigned_abs (edge cell.now.sides.y) + unsigned_abs (edge cell.now.sides.z))
         → unsigned_abs result ≤ 2 ^ 98 }
 {

@@ -1,6 +1,6 @@
 //! A fix, and the list of a run's fixes under their names.
 ghost use Rattle.std.specs.Prelude.{◌≡◌, ◌≤◌, ◌↔◌, ◌++◌, [], ◌∷◌, ℕ, true, false, IfSome, IsSomeAnd, IsOkAnd, OnOk, OnErr};
-ghost use Rattle.fix_list.specs.Fixes.{fix_moves, has_name, moves, movers, without, ids_of, Rises};
+ghost use Rattle.fix_list.specs.Fixes.{fix_moves, has_name, moves, movers, without, ids_of, AllRise, Rises};
 ghost use Rattle.fix_list.specs.Least.{least_among};
 
 use box_geo::Ids;
@@ -92,6 +92,14 @@ impl FixList {
         Ok(FixList {
             items: Vec::new(alloc),
         })
+    }
+
+    /// The list of these fixes, the ids of each in strictly rising order.
+    pub fn from_vec(items: Vec<NamedFix>) -> FixList
+        requires { AllRise items.items }
+        ensures { result ≡ items.items }
+    {
+        FixList { items }
     }
 
     /// Appends a fix, whose ids are in strictly rising order. It is refused with `NameExists` exactly

@@ -159,9 +159,9 @@ impl PairTable {
 
     /// The first half of [`PairTable::term`]: a guess of the quotients, `None` at the cutoff and beyond, where there is
     /// no term whatever the weight. Where the guesses for several pairs are made before their terms, the processor works
-    /// on all of them at once. It counts no step.
+    /// on all of them at once. It counts one step where it is `None`, so that each pair counts one, by one half.
     #[inline(always)]
-    pub fn guess(&self, i: u8, j: u8, d: V3) -> Option<Guess>
+    pub fn guess<L: Ledger>(&self, i: u8, j: u8, d: V3, steps: &mut Steps<L>) -> Option<Guess>
         requires finished { IsFinished self.now }
         requires i { IsType self.now i }
         requires j { IsType self.now j }
@@ -172,8 +172,13 @@ impl PairTable {
             (λ k. IfNone result (k.cutoff * k.cutoff ≤ length2 d)) }
         ensures none { IsSomeAnd (coefficients_at self.now i j) (λ k. IfNone result
             ((weight : ℕ) → Ok None ≡ pair_term k.epsilon k.sigma k.cutoff (pos 0) weight d)) }
+        ensures steps { MatchOption result (steps.new ≡ steps.old + 1) (λ g. steps.new ≡ steps.old) }
     {
-        guess_for(self.pair(i, j).unwrap(), d)
+        let guess = guess_for(self.pair(i, j).unwrap(), d);
+        if guess.is_none() {
+            steps.tick();
+        }
+        guess
     }
 
     /// The second half of [`PairTable::term`]: the same term, whatever was guessed. A wrong guess only takes longer. It

@@ -1,9 +1,10 @@
 -- How large the sums over pairs are: the energy by the greatest depth of a well, the virial by the edges of the box.
-use Rattle.std.proofs.Common.{◌≡◌, ◌+◌, ◌*◌, ◌^◌, ◌<◌, ◌≤◌, ◌==◌, Bool, true, false, cond, nat_le, ℕ, zero, suc, ℤ, pos, ◌+ℤ◌, ◌-ℤ◌, ◌*ℤ◌, ◌<ℤ◌, unsigned_abs, Option, Some, None, Result, Ok, Err, IfOk, IfSome, List, [], ◌∷◌, ◌++◌, length, map, refl, ap, ◌∙◌, arith}
+use Rattle.std.proofs.Common.{◌≡◌, ⊎_elim, ◌+◌, ◌*◌, ◌^◌, ◌<◌, ◌≤◌, ◌==◌, Bool, true, false, cond, nat_le, ℕ, zero, suc, ℤ, pos, ◌+ℤ◌, ◌-ℤ◌, ◌*ℤ◌, ◌<ℤ◌, unsigned_abs, Option, Some, None, Result, Ok, Err, IfOk, IfSome, List, [], ◌∷◌, ◌++◌, length, map, refl, ap, ◌∙◌, arith}
 use Rattle.std.specs.List.{All}
 use Rattle.std.specs.Option.{option_map}
 use Rattle.std.proofs.lemmas.Int.{ints, unsigned_abs-mul}
 use Rattle.std.proofs.lemmas.Nat.{mul-le}
+use Rattle.std.proofs.lemmas.Bool.{cases_lt}
 use Rattle.std.proofs.lemmas.Bool.Decides.{nat_tests}
 use Rattle.std.proofs.lemmas.List.{length-append, length-map}
 use Rattle.std.proofs.lemmas.List.Elements.{All-nil, All-head, All-tail, All-append, All-weaker, All-map}
@@ -234,6 +235,67 @@ pair_virial-within field s atoms light inside =
     total-within_all (λ p. virial_of (term_of field s p.0 p.1)) (2 ^ 42 * edges_of s) (half atoms)
     (All-weaker (λ p. IsInside s p.0.x × IsInside s p.1.x) (λ p. unsigned_abs (virial_of (term_of field s p.0 p.1)) ≤ 2 ^ 42 * edges_of s)
     (λ p both. term_virial-within field s p.0 p.1 light both.0 both.1) (half atoms) (All-half (λ a. IsInside s a.x) atoms inside))
+
+-- nothing acts at a distance of 2^28 or more, so each component of a displacement that acts is shorter
+outcome_near : (P : Term → Type 0) (far near strong : Bool) (t : Term) → (far ≡ false → near ≡ false → strong ≡ false → P t) → HasTerm P (outcome far near strong t)
+outcome_near P true near strong t h = tt
+outcome_near P false true strong t h = tt
+outcome_near P false false true t h = tt
+outcome_near P false false false t h = h refl refl refl
+
+root_below : (x : ℕ) → x * x ≤ 2 ^ 56 → x ≤ 2 ^ 28
+root_below x low = ⊎_elim (λ (long : 2 ^ 28 < x). absurd (omega (arith, mul-le (2 ^ 28 + 1) (2 ^ 28 + 1) x x (omega arith) (omega arith)))) (λ short. short) (cases_lt (2 ^ 28) x)
+
+squares_below : (x y z cut : ℕ) → cut ≤ 2 ^ 28 → nat_le (cut * cut) (x * x + y * y + z * z) ≡ false → (x * x ≤ 2 ^ 56) × (y * y ≤ 2 ^ 56) × (z * z ≤ 2 ^ 56)
+squares_below x y z cut short near =
+    let most : cut * cut ≤ 2 ^ 28 * 2 ^ 28 = mul-le cut cut (2 ^ 28) (2 ^ 28) short short in
+    let below : x * x + y * y + z * z < cut * cut = grind (arith, nat_tests) in
+    (omega arith, omega arith, omega arith)
+
+abbrev IsShort : List ℤ → Type 0
+IsShort d = (unsigned_abs (x_of d) ≤ 2 ^ 28) × (unsigned_abs (y_of d) ≤ 2 ^ 28) × (unsigned_abs (z_of d) ≤ 2 ^ 28)
+
+short_within : (d : List ℤ) (cut : ℕ) → cut ≤ 2 ^ 28 → nat_le (cut * cut) (length2 d) ≡ false → IsShort d
+short_within d cut short near =
+    let below = squares_below (unsigned_abs (x_of d)) (unsigned_abs (y_of d)) (unsigned_abs (z_of d)) cut short near in
+    (root_below (unsigned_abs (x_of d)) below.0, root_below (unsigned_abs (y_of d)) below.1, root_below (unsigned_abs (z_of d)) below.2)
+
+dot_short : (d f : List ℤ) → IsShort d → IsModerate f → unsigned_abs (dot d f) ≤ 3 * 2 ^ 70
+dot_short d f short mild =
+    let all : unsigned_abs (dot d f) ≤ 2 ^ 42 * (2 ^ 28 + 2 ^ 28 + 2 ^ 28) =
+    sum_within (x_of d *ℤ x_of f) (y_of d *ℤ y_of f) (z_of d *ℤ z_of f) (2 ^ 28) (2 ^ 28) (2 ^ 28)
+    (work_within (x_of d) (x_of f) (2 ^ 28) short.0 mild.0)
+    (work_within (y_of d) (y_of f) (2 ^ 28) short.1 mild.1)
+    (work_within (z_of d) (z_of f) (2 ^ 28) short.2 mild.2) in
+    omega arith
+
+pair_term-reached : (eps sigma cut weight : ℕ) (d : List ℤ) → cut ≤ 2 ^ 28 → weight ≤ 2 ^ 24
+    → HasTerm (HasVirialWithin (3 * 2 ^ 70)) (pair_term eps sigma cut (pos 0) weight d)
+unfolding pair_term weighted_term
+pair_term-reached eps sigma cut weight d short light =
+    let c : ℤ = strength eps sigma (length2 d) in
+    outcome_near (HasVirialWithin (3 * 2 ^ 70)) (nat_le (cut * cut) (length2 d)) (is_too_near sigma (length2 d)) (is_too_strong (force_along c d))
+    (weighted_term c (energy_at eps sigma (length2 d) -ℤ pos 0) weight d)
+    (λ near apart mild. dot_short d (force_along (shr_rounded (c *ℤ pos weight) 24) d) (short_within d cut short near) (force_along-weighted c weight d light mild))
+
+short_numbers : (k : Option Coefficients) (n : PairNumbers) → option_map numbers_of k ≡ Some n → n.cutoff ≤ 2 ^ 28
+short_numbers None n is = absurd cc
+short_numbers (Some k) n is =
+    let same : k.cutoff ≡ n.cutoff = cc in
+    omega (arith, k.short)
+
+term_virial-reached : (table : PairTable) (s : Sides) (i j : Atom) → unsigned_abs (virial_of (term_of (field_of table) s i j)) ≤ 3 * 2 ^ 70
+unfolding term_of
+term_virial-reached table s i j =
+    virial_of-within (term_of (field_of table) s i j) (3 * 2 ^ 70)
+    (term_apart-has (HasVirialWithin (3 * 2 ^ 70)) (i.id == j.id) (2 ^ 24) (option_map numbers_of (coefficients_at table i.kind j.kind)) (near_image s i.x j.x)
+    (λ n is. pair_term-reached n.epsilon n.sigma n.cutoff (2 ^ 24) (near_image s i.x j.x) (short_numbers (coefficients_at table i.kind j.kind) n is) (omega arith)))
+
+-- a virial by the greatest cutoff, whatever the edges
+pub pair_virial-reached : (table : PairTable) (s : Sides) (atoms : List Atom) → unsigned_abs (pair_virial (field_of table) s atoms) ≤ 3 * 2 ^ 70 * length (half atoms)
+unfolding pair_virial
+pair_virial-reached table s atoms =
+    total-within (λ p. virial_of (term_of (field_of table) s p.0 p.1)) (3 * 2 ^ 70) (half atoms) (λ p. term_virial-reached table s p.0 p.1)
 
 -- for as many atoms as there may be
 few_pairs : (n h : ℕ) → n ≤ 2 ^ 20 → 2 * h ≤ n * n → (h ≤ n * 2 ^ 19) × (h ≤ 2 ^ 39)

@@ -1,6 +1,6 @@
 -- What the laws of sums over pairs speak of: fields in which a pair has no order, lists of pairs, and what the adds of their terms bring.
 use Rattle.std.specs.Prelude.{◌≡◌, ◌*◌, ◌<◌, ◌≤◌, ◌==◌, ◌&&◌, ◌⊎◌, Bool, true, false, cond, nat_lt, ℕ, ℤ, Ok, None, IfSome, List, flat_map, length, slice_index_or}
-use Rattle.std.specs.List.{Contains, IsDistinct, filter}
+use Rattle.std.specs.List.{AllByRecursion, Contains, IsDistinct, filter}
 use Rattle.std.specs.List.Sorted.{IsPermutation}
 use Rattle.box_geo.specs.declared.atoms.Atom.{Atom}
 use Rattle.box_geo.specs.declared.sim_box.Sides.{Sides}
@@ -72,3 +72,16 @@ IsReach field reach = (i j : ℕ) → IfSome (field.pairs i j) (λ k. k.cutoff �
 -- the pair is nearer than the reach
 abbrev pub is_within : Sides → ℕ → Atom × Atom → Bool
 is_within s reach p = nat_lt (length2 (near_image s p.0.x p.1.x)) (reach * reach)
+
+-- a type of so many
+abbrev pub IsOfKinds : ℕ → ℕ → Type 0
+IsOfKinds kinds k = (1 ≤ k) × (k ≤ kinds)
+
+-- two fields agree at so many types, and give each pair of ids the same weight
+pub record AreAlike (kinds : ℕ) (f g : Field) : Type 0 where
+  pub pairs : (i j : ℕ) → IsOfKinds kinds i → IsOfKinds kinds j → f.pairs i j ≡ g.pairs i j
+  pub weight : (a b : ℕ) → f.weight a b ≡ g.weight a b
+
+-- all atoms are of those types
+abbrev pub AreOfKinds : ℕ → List Atom → Type 0
+AreOfKinds kinds atoms = AllByRecursion (λ a. IsOfKinds kinds a.kind) atoms

@@ -3,6 +3,7 @@ pub mod ForcedLemmas
 pub mod LoopLemmas
 pub mod MotionLemmas
 pub mod PairLemmas
+pub mod ReachLemmas
 pub mod RebuildLemmas
 pub mod RowLemmas
 pub mod SmallLemmas

@@ -12,7 +12,7 @@ use Rattle.box_geo.specs.declared.sim_box.Sides.{Sides}
 use Rattle.box_geo.specs.Sides.{IsInside, edge}
 use Rattle.pair_lj.specs.declared.table.PairTable.{PairTable}
 use Rattle.serial_step.specs.Forces.{field_of, pair_energy, pair_virial}
-use Rattle.serial_step.proofs.Bounds.{field_of-light, length-half, pair_energy-within, pair_virial-within}
+use Rattle.serial_step.proofs.Bounds.{field_of-light, length-half, pair_energy-within, pair_virial-reached, pair_virial-within}
 use Rattle.step_engine.specs.declared.tally.Tally.{Tally}
 use Rattle.step_engine.specs.Ranges.{IsPlaced, IsSmall}
 use Rattle.sums.specs.Totals.{half}
@@ -31,6 +31,7 @@ sums_small table s atoms t pair virial placed =
       pair = rw pair (twice (unsigned_abs (pair_energy (field_of table) s atoms)) (2 ^ 60) (length (half atoms)) (length atoms) (pair_energy-within table s atoms) (length-half atoms));
       virial = rw virial (twice (unsigned_abs (pair_virial (field_of table) s atoms)) (2 ^ 42 * (unsigned_abs (edge s.x) + unsigned_abs (edge s.y) + unsigned_abs (edge s.z))) (length (half atoms)) (length atoms)
           (pair_virial-within (field_of table) s atoms (field_of-light table) inside) (length-half atoms));
+      reached = rw virial (twice (unsigned_abs (pair_virial (field_of table) s atoms)) (3 * 2 ^ 70) (length (half atoms)) (length atoms) (pair_virial-reached table s atoms) (length-half atoms));
     }
 
 -- so are those of an evaluation of forces

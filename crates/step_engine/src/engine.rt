@@ -12,12 +12,13 @@ ghost use Rattle.sums.specs.Totals.{half};
 
 use crate::motion::{drift, kick_again};
 use crate::pairs::evaluate_forces;
+use crate::reach::Reach;
 use crate::rebuild::{neighbour_pairs, positions, renew, renews};
 use crate::room::edge_too_small;
 use crate::rules::{ForceField, Rules};
 use crate::tally::Tally;
 use box_geo::limits::MAX_STEP;
-use box_geo::{Angles, Atom, Axis, Bonds, FaultKey, NO_FAULT, System};
+use box_geo::{Angles, Atom, Axis, Bonds, FaultKey, NO_FAULT, SimBox, System};
 use fix_list::FixList;
 use fx_num::{NoMemory, Seq, Steps, V3};
 use std::alloc::Global;
@@ -163,9 +164,11 @@ impl Engine {
         ensures fault { IfErr result (IsKeyOf (forces_fault (field_of self.old.rules.field.pairs) self.old.rules.cell.sides self.old.state.atoms)) }
         ensures steps { steps.new ≡ steps.old + length (half self.old.state.atoms) }
     {
+        let reach = Reach::new(&self.rules.field, &self.rules.cell);
         evaluate_forces(
             &self.rules.field.pairs,
             &self.rules.cell,
+            &reach,
             &mut self.atoms,
             steps,
         )
@@ -251,6 +254,65 @@ impl Engine {
             bonds: Seq::from_vec(Vec::from_slice(alloc, self.bonds.as_slice())?),
             angles: Seq::from_vec(Vec::from_slice(alloc, self.angles.as_slice())?),
         })
+    }
+
+    /// The number of the step.
+    pub fn step(&self) -> u64
+        ensures { result ≡ self.now.state.step }
+    {
+        self.step
+    }
+
+    /// The atoms, as they stand.
+    pub fn atoms(&self) -> &[Atom]
+        ensures { result.now ≡ self.now.state.atoms }
+    {
+        &self.atoms
+    }
+
+    /// The mass of each atom type, in units.
+    pub fn mass(&self) -> &[i64]
+        ensures { result.now ≡ self.now.rules.mass }
+    {
+        self.rules.mass.as_slice()
+    }
+
+    /// The simulation box.
+    pub fn cell(&self) -> &SimBox
+        ensures { result.now ≡ self.now.rules.cell }
+    {
+        &self.rules.cell
+    }
+
+    /// The system as it stands, in place of the engine.
+    pub fn into_system(self) -> System
+        ensures { result ≡ system_of self }
+    {
+        let Engine {
+            rules,
+            step,
+            atoms,
+            references: _,
+            builds: _,
+            bonds,
+            angles,
+        } = self;
+        let Rules {
+            field: _,
+            cell,
+            dt,
+            mass,
+            skin: _,
+        } = rules;
+        System {
+            step,
+            dt,
+            cell,
+            mass,
+            atoms: Seq::from_vec(atoms),
+            bonds,
+            angles,
+        }
     }
 
     /// The number of neighbour pairs at the last references, and how often the references were renewed

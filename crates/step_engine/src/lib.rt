@@ -8,6 +8,7 @@
 mod engine;
 mod motion;
 mod pairs;
+mod reach;
 mod rebuild;
 mod room;
 mod rows;
@@ -15,5 +16,6 @@ mod rules;
 mod tally;
 
 pub use engine::{Engine, EngineRefusal, StepEnd};
+pub use room::edge_too_small;
 pub use rules::{ForceField, Rules};
 pub use tally::Tally;

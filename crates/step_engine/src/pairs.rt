@@ -6,9 +6,11 @@ ghost use Rattle.pair_lj.specs.Table.{IsFinished};
 ghost use Rattle.serial_step.specs.Forces.{field_of, force_word, forces_fault, least, pair_energy, pair_virial, terms_fault, with_force, with_forces};
 ghost use Rattle.step_engine.specs.Engine.{IsKeyOf};
 ghost use Rattle.step_engine.specs.Ranges.{IsPlaced, IsWithin};
+ghost use Rattle.step_engine.specs.Reach.{IsReachOf};
 ghost use Rattle.step_engine.specs.Rows.{AreSumsWithin, IsRowWithin, after_row, first_row, no_force, sums_plus};
 ghost use Rattle.sums.specs.Totals.{half};
 
+use crate::reach::Reach;
 use crate::rows::{Row, add_row, sum};
 use crate::tally::Tally;
 use box_geo::limits::{MAX_ATOMS, MAX_FORCE, MAX_ID};
@@ -33,10 +35,12 @@ struct Sums {
 pub(crate) fn evaluate_forces<L: Ledger>(
     pairs: &PairTable,
     cell: &SimBox,
+    reach: &Reach,
     atoms: &mut [Atom],
     steps: &mut Steps<L>,
 ) -> Result<Tally, FaultKey>
     requires finished { IsFinished pairs.now }
+    requires reach { IsReachOf (field_of pairs.now) cell.now.sides reach.now }
     requires few { length atoms.old ≤ MAX_ATOMS }
     requires placed { All (IsPlaced pairs.now cell.now.sides) atoms.old }
     ensures forces { OnOk result (atoms.new ≡ with_forces (field_of pairs.now) cell.now.sides atoms.old) }
@@ -47,7 +51,7 @@ pub(crate) fn evaluate_forces<L: Ledger>(
     ensures length { length atoms.new ≡ length atoms.old }
     ensures steps { steps.new ≡ steps.old + length (half atoms.old) }
 {
-    let sums = add_rows(pairs, cell, atoms, steps);
+    let sums = add_rows(pairs, cell, reach, atoms, steps);
     if sums.fault < NO_FAULT {
         return Err(FaultKey::from_word(sums.fault));
     }
@@ -67,10 +71,12 @@ pub(crate) fn evaluate_forces<L: Ledger>(
 fn add_rows<L: Ledger>(
     pairs: &PairTable,
     cell: &SimBox,
+    reach: &Reach,
     atoms: &mut [Atom],
     steps: &mut Steps<L>,
 ) -> Sums
     requires finished { IsFinished pairs.now }
+    requires reach { IsReachOf (field_of pairs.now) cell.now.sides reach.now }
     requires few { length atoms.old ≤ MAX_ATOMS }
     requires placed { All (IsPlaced pairs.now cell.now.sides) atoms.old }
     ensures forces { atoms.new ≡ with_forces (field_of pairs.now) cell.now.sides atoms.old }
@@ -86,7 +92,7 @@ fn add_rows<L: Ledger>(
         fault: NO_FAULT,
     };
     for i in 0..atoms.len() {
-        let row = add_first(pairs, cell, &mut atoms[i..], steps);
+        let row = add_first(pairs, cell, reach, &mut atoms[i..], steps);
         sums.add(&row);
     }
     sums
@@ -105,10 +111,12 @@ fn clear_forces(atoms: &mut [Atom])
 fn add_first<L: Ledger>(
     pairs: &PairTable,
     cell: &SimBox,
+    reach: &Reach,
     atoms: &mut [Atom],
     steps: &mut Steps<L>,
 ) -> Row
     requires finished { IsFinished pairs.now }
+    requires reach { IsReachOf (field_of pairs.now) cell.now.sides reach.now }
     requires some { 0 < length atoms.old }
     requires few { length atoms.old ≤ MAX_ATOMS }
     requires placed { All (IsPlaced pairs.now cell.now.sides) atoms.old }
@@ -119,7 +127,7 @@ fn add_first<L: Ledger>(
     ensures steps { steps.new ≡ steps.old + (length atoms.old - 1) }
 {
     let own = atoms[0];
-    let row = add_row(pairs, cell, &own, &mut atoms[1..], steps);
+    let row = add_row(pairs, cell, reach, &own, &mut atoms[1..], steps);
     atoms[0].f = sum(&own.f, &row.f);
     row
 }

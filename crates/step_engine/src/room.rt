@@ -7,7 +7,7 @@ use box_geo::{Axis, Extent, Sides, SimBox};
 
 /// The first axis that wraps and whose edge is below twice the reach.
 #[tactic(auto, unfolding(serial_step::specs::Room::edge_too_small))]
-pub(crate) fn edge_too_small(cell: &SimBox, reach: i64) -> Option<Axis>
+pub fn edge_too_small(cell: &SimBox, reach: i64) -> Option<Axis>
     requires { unsigned_abs reach ≤ 2 ^ 40 }
     ensures { result ≡ edge_too_small cell.now.sides reach }
 {

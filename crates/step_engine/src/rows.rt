@@ -7,8 +7,10 @@ ghost use Rattle.pair_lj.specs.PairTerm.{HasModerateEnergy, HasModerateForce, Ha
 ghost use Rattle.pair_lj.specs.Table.{IsFinished};
 ghost use Rattle.serial_step.specs.Forces.{field_of, term_of, word};
 ghost use Rattle.step_engine.specs.Ranges.{IsPlaced, IsWithin};
+ghost use Rattle.step_engine.specs.Reach.{IsReachOf};
 ghost use Rattle.step_engine.specs.Rows.{IsRowWithin, difference_of, pushed_by, row_of, row_plus, row_with, sum_of};
 
+use crate::reach::Reach;
 use box_geo::limits::{FULL_WEIGHT, MAX_ATOMS, MAX_ID};
 use box_geo::{Atom, FaultKey, FaultKind, FaultPhase, NO_FAULT, SimBox, Term};
 use fx_num::{Steps, V3};
@@ -36,11 +38,13 @@ pub(crate) struct Row {
 pub(crate) fn add_row<L: Ledger>(
     pairs: &PairTable,
     cell: &SimBox,
+    reach: &Reach,
     own: &Atom,
     others: &mut [Atom],
     steps: &mut Steps<L>,
 ) -> Row
     requires finished { IsFinished pairs.now }
+    requires reach { IsReachOf (field_of pairs.now) cell.now.sides reach.now }
     requires own { IsPlaced pairs.now cell.now.sides own.now }
     requires placed { All (IsPlaced pairs.now cell.now.sides) others.old }
     requires few { length others.old ≤ MAX_ATOMS }
@@ -57,7 +61,7 @@ pub(crate) fn add_row<L: Ledger>(
         fault: NO_FAULT,
     };
     for other in others.iter_mut() {
-        add_pair(pairs, cell, own, other, &mut row, steps);
+        add_pair(pairs, cell, reach, own, other, &mut row, steps);
     }
     row
 }
@@ -66,12 +70,14 @@ pub(crate) fn add_row<L: Ledger>(
 fn add_pair<L: Ledger>(
     pairs: &PairTable,
     cell: &SimBox,
+    reach: &Reach,
     own: &Atom,
     other: &mut Atom,
     row: &mut Row,
     steps: &mut Steps<L>,
 )
     requires finished { IsFinished pairs.now }
+    requires reach { IsReachOf (field_of pairs.now) cell.now.sides reach.now }
     requires own { IsPlaced pairs.now cell.now.sides own.now }
     requires other { IsPlaced pairs.now cell.now.sides other.old }
     requires mild { IsWithin (2 ^ 62 - 1) other.old.f }
@@ -81,7 +87,7 @@ fn add_pair<L: Ledger>(
     ensures bound { (k : ℕ) → IsRowWithin k row.old → IsRowWithin (k + 1) row.new }
     ensures steps { steps.new ≡ steps.old + 1 }
 {
-    match pair_term(pairs, cell, own, other, steps) {
+    match pair_term(pairs, cell, reach, own, other, steps) {
         Ok(Some(term)) => {
             row.add(&term);
             other.f = difference(&other.f, &term.f);
@@ -95,11 +101,13 @@ fn add_pair<L: Ledger>(
 fn pair_term<L: Ledger>(
     pairs: &PairTable,
     cell: &SimBox,
+    reach: &Reach,
     own: &Atom,
     other: &Atom,
     steps: &mut Steps<L>,
 ) -> Result<Option<Term>, Close>
     requires finished { IsFinished pairs.now }
+    requires reach { IsReachOf (field_of pairs.now) cell.now.sides reach.now }
     requires own { IsPlaced pairs.now cell.now.sides own.now }
     requires other { IsPlaced pairs.now cell.now.sides other.now }
     ensures is { result ≡ term_of (field_of pairs.now) cell.now.sides own.now other.now }
@@ -108,6 +116,10 @@ fn pair_term<L: Ledger>(
     ensures virial { IfOk result (λ t. IfSome t HasModerateVirial) }
     ensures step { steps.new ≡ steps.old + 1 }
 {
+    if reach.is_passed(&own.x, &other.x) {
+        steps.tick();
+        return Ok(None);
+    }
     if own.id == other.id {
         steps.tick();
         return Ok(None);

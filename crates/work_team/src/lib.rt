@@ -11,7 +11,7 @@ mod team;
 mod work;
 mod worker;
 
-pub use limits::MAX_TALLY;
+pub use limits::{MAX_TALLY, tally_limit_is_this_number};
 pub use tally::Tally;
 pub use team::do_all;
 pub use work::Work;

@@ -22,4 +22,4 @@ unfolding pressure
 value_is c = search rules
 
 pub returns-clause-fits : goal.returns-clause-fits
-returns-clause-fits c = λ space kinetic virial. rw (value_is c) (pressure_fits c.args.s c.args.w c.args.cell.now.sides c.args.cell.now.sound space kinetic virial)
+returns-clause-fits c = λ kinetic reached virial. rw (value_is c) (pressure_fits c.args.s c.args.w c.args.cell.now.sides c.args.cell.now.sound kinetic reached virial)

@@ -1,4 +1,9 @@
+pub mod BadWordLemmas
 pub mod BranchLemmas
+pub mod CompletionLemmas
+pub mod LimitLemmas
 pub mod OptionLemmas
+pub mod PrefixLemmas
 pub mod Products
 pub mod RangeLemmas
+pub mod RefusalLemmas

@@ -6,6 +6,7 @@ pub mod Fixes
 pub mod Flow
 pub mod Forms
 pub mod Lattice
+pub mod Limits
 pub mod MassesGroups
 pub mod Names
 pub mod Neighbors
@@ -13,6 +14,7 @@ pub mod Options
 pub mod Output
 pub mod Pairs
 pub mod Places
+pub mod Prefixes
 pub mod Ranges
 pub mod Read
 pub mod Restarts

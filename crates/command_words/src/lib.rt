@@ -11,6 +11,7 @@ mod fixes;
 mod flow;
 mod forms;
 mod lattice;
+mod laws;
 mod limits;
 mod masses_groups;
 mod names;
@@ -42,7 +43,13 @@ pub use flow::{Branch, Choice, Jump};
 pub use lattice::{
     Block, Creation, CreationSites, LatticeSetting, NewBox, NewRegion, Shape, SinglePoint, Sphere,
 };
-pub use limits::{MAX_DENSITY, MAX_LOOP, MAX_REPEAT, MAX_SEED, MIN_DENSITY};
+pub use laws::{
+    bad_words_are_told_at_the_first_word_that_begins_no_form, commands_keep_their_limits,
+    words_begin_a_form_where_further_words_give_them_one,
+};
+pub use limits::{
+    MAX_DENSITY, MAX_LOOP, MAX_REPEAT, MAX_SEED, MIN_DENSITY, command_limits_are_these_numbers,
+};
 pub use masses_groups::{GroupChange, MassSetting, Members};
 pub use pairs::{PairChange, PairCoeff};
 pub use ranges::{IdRange, KindRange};

@@ -18,6 +18,11 @@ pub enum Failure {
 /// The greatest exponent.
 pub const MAX_EXPONENT: u64 = 64;
 
+/// The greatest exponent as a number: a law, which does nothing when it runs.
+pub fn exponent_limit_is_this_number()
+    ensures { MAX_EXPONENT ≡ 64 }
+{}
+
 /// 1 in units, as a magnitude.
 const ONE: u64 = 1 << 24;
 

@@ -14,6 +14,7 @@ mod tree;
 mod value;
 mod words;
 
+pub use arithmetic::{MAX_EXPONENT, exponent_limit_is_this_number};
 pub use laws::{
     operators_group_by_their_levels, refused_at_the_first_wrong_byte, texts_spell_their_trees,
 };

@@ -56,10 +56,22 @@ impl<R: Files + Print + Drop> Press for FilePress<R> {
         ensures faults_kept { self.old ≤ self.new }
     {
         if name.as_bytes() == SCREEN {
-            return put_into(&mut self.faults, &mut Ok(io::writer(&self.rt)), bytes);
+            return put_on_screen(&mut self.faults, &self.rt, bytes);
         }
         put_into(&mut self.faults, &mut open(&self.rt, name, fresh), bytes)
     }
+}
+
+/// Writes a piece to the standard output, and counts a failure.
+pub(crate) fn put_on_screen<R: Print>(
+    faults: &mut u64,
+    rt: &R,
+    bytes: &[u8],
+) -> Result<(), PutRefusal>
+    ensures counted { faults.new ≡ put_faults_after faults.old result }
+    ensures faults_kept { faults.old ≤ faults.new }
+{
+    put_into(faults, &mut Ok(io::writer(rt)), bytes)
 }
 
 /// Opens the file of this name to write a piece of it.

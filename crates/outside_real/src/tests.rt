@@ -1,10 +1,13 @@
 //! What no contract can say: what a real file gives and takes, and what a device that fails in the middle
 //! leaves.
+use super::press::put_on_screen;
 use super::reading::read_whole;
 use super::writing::put_into;
 use super::*;
 use fx_num::Text;
 use outside::{FetchRefusal, Press, PutRefusal, Shelf};
+use std::cell::RefCell;
+use std::fmt::Display;
 use std::io::{ErrorKind, Read, Write};
 use std::process::Abort;
 use std::rt::{Env, Files};
@@ -93,10 +96,93 @@ fn a_press_starts_a_file_anew_or_appends(rt: HostRuntime) -> Result<(), Fail> {
     Ok(())
 }
 
-/// A writer that takes two bytes at a time, and fails when it has no room left.
+/// Ten thousand bytes: 23 letters over and over, so that a part that is lost or comes twice is seen.
+fn long_piece() -> [u8; 10_000] {
+    let mut bytes = [b'x'; 10_000];
+    let mut next = b'a';
+    for byte in &mut bytes {
+        *byte = next;
+        next = if next < b'w' { next + 1 } else { b'a' };
+    }
+    bytes
+}
+
+#[test]
+fn a_long_piece_is_written_and_read_whole(rt: HostRuntime) -> Result<(), Fail> {
+    let folder = make_folder(&rt, "long", process::id(rt.process()))?;
+    let path = format!(in rt.alloc(); "{folder}/dump.lj")?;
+    let name = Text::from_bytes(rt.alloc(), path.as_bytes())?;
+    let piece = long_piece();
+    let mut both = Vec::new(rt.alloc());
+    both.extend_from_slice(&piece)?;
+    both.extend_from_slice(&piece)?;
+
+    let mut press = FilePress::new(&rt);
+    let mut shelf = FileShelf::new(&rt);
+    press.put(rt.alloc(), &name, true, &piece)?;
+    check_fetch(&rt, &mut shelf, path.as_bytes(), Ok(&piece))?;
+    press.put(rt.alloc(), &name, false, &piece)?;
+    check_fetch(&rt, &mut shelf, path.as_bytes(), Ok(&both))?;
+
+    fs::remove_dir_all(&rt, folder.as_str())?;
+    Ok(())
+}
+
+/// A standard output that keeps what is written to it.
+#[derive(Drop)]
+struct Paper {
+    written: RefCell<Vec<u8>>,
+}
+
+impl Print for Paper {
+    fn print<D: Display + Drop>(&self, _value: D) -> io::Result<()> {
+        Err(io::Error::from(ErrorKind::Unsupported))
+    }
+
+    fn println<D: Display + Drop>(&self, _value: D) -> io::Result<()> {
+        Err(io::Error::from(ErrorKind::Unsupported))
+    }
+
+    fn write_all(&self, bytes: &[u8]) -> io::Result<()> {
+        match self.written.try_borrow_mut() {
+            Ok(mut written) => written.write_all(bytes),
+            Err(_) => Err(io::Error::from(ErrorKind::ResourceBusy)),
+        }
+    }
+}
+
+#[test]
+fn a_long_piece_is_put_on_the_screen_whole(rt: HostRuntime) -> Result<(), Fail> {
+    let piece = long_piece();
+    let paper = Paper {
+        written: RefCell::new(Vec::new(rt.alloc())),
+    };
+    let mut faults = 0;
+    put_on_screen(&mut faults, &paper, &piece)?;
+    put_on_screen(&mut faults, &paper, b"Step")?;
+    match paper.written.try_borrow() {
+        Ok(written) => {
+            assert!(rt; written.starts_with(&piece));
+            assert_eq!(rt; &written[10_000..], b"Step".as_slice());
+        }
+        Err(_) => panic!(rt; "the paper is in use"),
+    }
+    Ok(())
+}
+
+/// A writer that takes two bytes at a time, and fails when it has no room left, or at its flush.
 #[derive(Drop)]
 struct Narrow {
     room: usize,
+    flushes: bool,
+}
+
+impl Narrow {
+    /// A writer of this room.
+    fn of(room: usize) -> Narrow {
+        let flushes = true;
+        Narrow { room, flushes }
+    }
 }
 
 impl Write for Narrow {
@@ -110,7 +196,11 @@ impl Write for Narrow {
     }
 
     fn flush(&mut self) -> io::Result<()> {
-        Ok(())
+        if self.flushes {
+            Ok(())
+        } else {
+            Err(io::Error::from(ErrorKind::StorageFull))
+        }
     }
 }
 
@@ -118,17 +208,22 @@ impl Write for Narrow {
 fn a_put_that_fails_in_the_middle_is_counted(rt: HostRuntime) -> Result<(), Fail> {
     let faulted = Err(PutRefusal::Faulted);
     let unopened = |kind| Err(io::Error::from(kind));
+    let unflushed = Narrow {
+        room: 9,
+        flushes: false,
+    };
     let mut faults = 0;
     for (mut opened, want, count) in [
-        (Ok(Narrow { room: 9 }), Ok(()), 0),
-        (Ok(Narrow { room: 8 }), faulted, 1),
-        (Ok(Narrow { room: 0 }), faulted, 2),
+        (Ok(Narrow::of(9)), Ok(()), 0),
+        (Ok(Narrow::of(8)), faulted, 1),
+        (Ok(Narrow::of(0)), faulted, 2),
         (
             unopened(ErrorKind::OutOfMemory),
             Err(PutRefusal::NoMemory),
             2,
         ),
         (unopened(ErrorKind::PermissionDenied), faulted, 3),
+        (Ok(unflushed), faulted, 4),
     ] {
         let answer = put_into(&mut faults, &mut opened, b"Step Temp");
         assert_eq!(rt; answer, want);

@@ -5,8 +5,6 @@
 mod forms;
 mod lines;
 mod names;
-#[cfg(test)]
-mod tests;
 mod values;
 
 pub use forms::words_of;

@@ -1,9 +1,6 @@
-//! Texts of the log: how they are put under the log's name and on the screen, and the line of a range
-//! fault.
+//! Texts of the log that no other crate has: the lines of errors.
 #![tactic(auto)]
 
-mod fault;
-mod send;
+mod errors;
 
-pub use fault::{fault_text, push_whole};
-pub use send::{Stop, put_log};
+pub use errors::{fault_text, push_whole, refusal_text};

@@ -1,5 +1,0 @@
-use Rattle.nve_data.proofs.WrittenLemmas.{written_is_read}
-use Rattle.nve_data.proofs.laws.written_files_are_read.Goals as goal
-
-pub returns : goal.returns
-returns c = written_is_read

@@ -1,0 +1,4 @@
+pub mod Mapped
+pub mod StateLemmas
+pub mod Worked
+pub mod WorkedRuns

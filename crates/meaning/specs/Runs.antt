@@ -1,0 +1,139 @@
+-- Runs: set-up, and then one serial step after another, with what is due after each.
+use Rattle.std.specs.Prelude.{◌+◌, ◌-◌, ◌/◌, ◌%◌, ◌^◌, ◌==◌, ◌&&◌, ◌||◌, Bool, true, false, cond, not, is_none, nat_le, nat_lt, ℕ, zero, suc, ℤ, pos, ◌+ℤ◌, int_lt, unsigned_abs, Option, Some, None, Result, Ok, Err, List, [], ◌∷◌, ◌++◌, length}
+use Rattle.std.specs.List.{list_all}
+use Rattle.box_geo.specs.declared.fault.FaultKey.{FaultKey}
+use Rattle.box_geo.specs.declared.limits.TheConstants.{MAX_STEP}
+use Rattle.box_geo.specs.declared.sim_box.Axis.{Axis}
+use Rattle.box_geo.specs.Fault.{no_fault}
+use Rattle.fix_list.specs.Fixes.{moves}
+use Rattle.meaning.specs.declared.code.Code.{Code}
+use Rattle.meaning.specs.declared.code.Code.TheVariants.{BadValue, EdgeTooSmall, NoBox, TwiceMoved, Unset}
+use Rattle.meaning.specs.declared.output.Output.{Output}
+use Rattle.meaning.specs.declared.settings.Body.{Body}
+use Rattle.meaning.specs.declared.settings.Settings.{Settings}
+use Rattle.meaning.specs.Fixes.{fixes_over, moves_twice}
+use Rattle.meaning.specs.Outcome.{Outcome, Way, fails, goes, refused}
+use Rattle.meaning.specs.Pairs.{are_all_set, field_of, reach_of}
+use Rattle.meaning.specs.Shown.{Shown, nothing_shown, shown, shown_then}
+use Rattle.meaning.specs.Thermo.{is_due, thermo_footer, thermo_header, thermo_line}
+use Rattle.outside.specs.declared.press.Piece.{Piece}
+use Rattle.serial_step.specs.Room.{edge_too_small}
+use Rattle.serial_step.specs.Work.{step_pairs}
+use Rattle.sums.specs.Totals.{half}
+use Rattle.serial_step.specs.Step.{Outcome as StepOutcome, Setting, State, Sums, serial_step, set_up}
+use Rattle.box_geo.specs.declared.atoms.Atom.{Atom}
+use Rattle.meaning.specs.declared.uses.NameUse.{NameUse}
+
+-- the number of the step that a run ends at: so many more, or up to one
+abbrev pub last_step : Bool → ℕ → ℕ → ℕ
+last_step true n step = n
+last_step false n step = step + n
+
+-- the key of a fault's word
+abbrev pub key_of : ℕ → FaultKey
+key_of word = record { phase = word / 2 ^ 56; kind = word / 2 ^ 48 % 2 ^ 8; a = word / 2 ^ 24 % 2 ^ 24; b = word % 2 ^ 24 }
+
+-- what stands still in a run
+abbrev pub setting_of : Settings → Body → Setting
+setting_of s b = record {
+  field = field_of s.force;
+  sides = b.sides;
+  dt = s.setup.timestep;
+  mass = b.mass;
+  skin = unsigned_abs s.force.skin;
+  cutoff = reach_of s.force;
+  moves = moves (fixes_over b.atoms s.named.fixes);
+}
+
+-- all that forces and motion rest on is set: a pair style, each mass, each pair of types
+abbrev pub is_ready : Settings → Body → Bool
+is_ready s b = not (is_none s.force.pair_style) && list_all (λ m. int_lt (pos 0) m) b.mass && are_all_set (length b.mass) s.force.pairs
+
+-- why a run is refused, in the order of judgement
+abbrev pub run_code : Bool → ℕ → Settings → Body → Option Code
+run_code upto n s b =
+    cond ((upto && nat_lt n b.step) || nat_lt MAX_STEP (last_step upto n b.step)) (Some BadValue)
+    (cond (not (is_ready s b)) (Some Unset)
+    (cond (not (is_none (edge_too_small b.sides (pos (reach_of s.force) +ℤ s.force.skin)))) (Some EdgeTooSmall)
+    (cond (moves_twice b.atoms s.named.fixes) (Some TwiceMoved) None)))
+
+-- a run or a part of it: its pieces, the uses of names afterwards, the state of the serial step, the way on, and how many terms of pairs it sums
+pub record Ran : Type 0 where
+  pub pieces : List Piece
+  pub uses : List NameUse
+  pub state : State
+  pub way : Way
+  pub pairs : ℕ
+
+abbrev pub halted : List NameUse → State → Way → Ran
+halted uses state way = record { pieces = []; uses = uses; state = state; way = way; pairs = 0 }
+
+-- so many terms, and then the rest
+abbrev pub sums_up : ℕ → Ran → Ran
+sums_up pairs rest = record rest { pairs = pairs + rest.pairs }
+
+-- what is shown, and then the rest
+abbrev pub shows : Shown → (List NameUse → Ran) → Ran
+shows first next = record (next first.uses) { pieces = first.pieces ++ (next first.uses).pieces }
+
+abbrev pub shown_if : Bool → Output → List ℕ → List NameUse → Shown
+shown_if true o text uses = shown o text uses
+shown_if false o text uses = nothing_shown uses
+
+-- the line of a step, if one is due
+abbrev pub line_shown : Setting → Output → ℕ → State → Sums → List NameUse → Shown
+line_shown t o last state sums uses = shown_if (is_due o.every last state.step) o (thermo_line t state sums) uses
+
+-- after a step without a fault: its line, if one is due, and what follows; or the fault
+abbrev pub after_step : Setting → Output → ℕ → StepOutcome → List NameUse → (List NameUse → Ran) → Bool → Ran
+after_step t o last n uses next true = shows (line_shown t o last n.state n.sums uses) next
+after_step t o last n uses next false = halted uses n.state (fails (key_of n.fault) n.state.step)
+
+-- so many steps more, and then the footer
+unfoldable pub run_from : Setting → Output → ℕ → ℕ → State → List NameUse → Ran
+run_from t o last zero state uses = shows (shown o (thermo_footer t state) uses) (λ after. halted after state goes)
+run_from t o last (suc left) state uses =
+    let n : StepOutcome = serial_step t state in
+    sums_up (step_pairs t state) (after_step t o last n uses (λ after. run_from t o last left n.state after) (n.fault == no_fault))
+
+-- set-up, whose line is always due, and then the steps
+abbrev pub first_shown : Setting → Output → State → Sums → List NameUse → Shown
+first_shown t o state sums uses = shown_then (shown o thermo_header uses) (shown o (thermo_line t state sums))
+
+abbrev pub after_set_up : Setting → Output → StepOutcome → List NameUse → (List NameUse → Ran) → Bool → Ran
+after_set_up t o n uses next true = shows (first_shown t o n.state n.sums uses) next
+after_set_up t o n uses next false = halted uses n.state (fails (key_of n.fault) n.state.step)
+
+unfoldable pub run_of : Setting → Output → ℕ → ℕ → List Atom → List NameUse → Ran
+run_of t o last step atoms uses =
+    let n : StepOutcome = set_up t step atoms in
+    sums_up (length (half atoms)) (after_set_up t o n uses (λ after. run_from t o last (last - step) n.state after) (n.fault == no_fault))
+
+-- the state after a run
+abbrev pub after_run : Settings → Body → Ran → Outcome
+after_run s b r = record {
+  pieces = r.pieces;
+  state = record s { body = Some (record b { step = r.state.step; atoms = r.state.atoms }); output = record s.output { uses = r.uses } };
+  way = r.way;
+  pairs = r.pairs;
+}
+
+abbrev pub run_ready : Bool → ℕ → Settings → Body → Option Code → Outcome
+run_ready upto n s b (Some why) = refused s why
+run_ready upto n s b None = after_run s b (run_of (setting_of s b) s.output (last_step upto n b.step) b.step b.atoms s.output.uses)
+
+abbrev pub run_in : Bool → ℕ → Settings → Option Body → Outcome
+run_in upto n s None = refused s NoBox
+run_in upto n s (Some b) = run_ready upto n s b (run_code upto n s b)
+
+-- `run N` and `run N upto`
+abbrev pub run : Bool → ℕ → Settings → Outcome
+run upto n s = run_in upto n s s.body
+
+-- the step gets a number
+abbrev pub numbered : ℕ → Settings → Option Body → Result Settings Code
+numbered n s None = Err NoBox
+numbered n s (Some b) = Ok (record s { body = Some (record b { step = n }) })
+
+abbrev pub reset_timestep : ℕ → Settings → Result Settings Code
+reset_timestep n s = numbered n s s.body

@@ -1,0 +1,83 @@
+-- What the numbers of a state keep to.
+use Rattle.std.specs.Prelude.{◌≡◌, ◌≤◌, ◌*◌, ◌⊎◌, ◌+ℤ◌, ◌*ℤ◌, ◌<ℤ◌, ◌≤ℤ◌, Bool, true, ℕ, ℤ, pos, unsigned_abs, Option, IfSome, IsTrue, List, length}
+use Rattle.std.specs.List.{All}
+use Rattle.box_geo.specs.declared.atoms.Atom.{Atom}
+use Rattle.box_geo.specs.declared.limits.TheConstants.{MAX_ATOMS, MAX_CUTOFF, MAX_EPSILON, MAX_FORCE, MAX_ID, MAX_IMAGE, MAX_KINDS, MAX_MASS, MAX_SIGMA, MAX_SKIN, MAX_SPEED, MAX_STEP, MAX_TIMESTEP, MIN_MASS}
+use Rattle.box_geo.specs.declared.sim_box.Sides.{Sides}
+use Rattle.box_geo.specs.Sides.{IsInside, IsSound as IsSoundSides, x_of, y_of, z_of}
+use Rattle.command_words.specs.Limits.{IsCutoff}
+use Rattle.fix_list.specs.Fixes.{Rises}
+use Rattle.meaning.specs.declared.force.Force.{Force}
+use Rattle.meaning.specs.declared.pair_settings.PairCoefficients.{PairCoefficients}
+use Rattle.meaning.specs.declared.settings.Body.{Body}
+use Rattle.meaning.specs.declared.settings.Settings.{Settings}
+use Rattle.meaning.specs.declared.setup.Setup.{Setup}
+use Rattle.meaning.specs.Fixes.{ids_of}
+use Rattle.meaning.specs.Setup.{goes_together}
+
+-- two or three dimensions, z periodic in two, and a timestep within its limit
+pub record IsSoundSetup (s : Setup) : Type 0 where
+  pub dim : (s.dim ≡ 2) ⊎ (s.dim ≡ 3)
+  pub together : IsTrue (goes_together s.dim s.periodic)
+  pub slow : pos 0 ≤ℤ s.timestep
+  pub quick : s.timestep ≤ℤ MAX_TIMESTEP
+
+-- the lesser type first, and numbers within their limits
+pub record IsSoundPair (p : PairCoefficients) : Type 0 where
+  pub low : 1 ≤ p.i
+  pub ordered : p.i ≤ p.j
+  pub high : p.j ≤ MAX_KINDS
+  pub epsilon_low : pos 0 ≤ℤ p.epsilon
+  pub epsilon_high : p.epsilon ≤ℤ MAX_EPSILON
+  pub sigma_low : pos 0 <ℤ p.sigma
+  pub sigma_high : p.sigma ≤ℤ MAX_SIGMA
+  pub cutoff_low : pos 0 <ℤ p.cutoff
+  pub cutoff_high : p.cutoff ≤ℤ MAX_CUTOFF
+  pub covered : p.sigma ≤ℤ (pos 4 *ℤ p.cutoff)
+
+pub record IsSoundForce (f : Force) : Type 0 where
+  pub style : IfSome f.pair_style IsCutoff
+  pub pairs : All IsSoundPair f.pairs
+  pub comm_low : pos 0 ≤ℤ f.comm_cutoff
+  pub comm_high : f.comm_cutoff ≤ℤ MAX_CUTOFF
+  pub skin_low : pos 0 ≤ℤ f.skin
+  pub skin_high : f.skin ≤ℤ MAX_SKIN
+
+-- each component of a vector is of magnitude at most the bound
+abbrev pub IsWithin : ℕ → List ℤ → Type 0
+IsWithin bound v = (unsigned_abs (x_of v) ≤ bound) × (unsigned_abs (y_of v) ≤ bound) × (unsigned_abs (z_of v) ≤ bound)
+
+-- a mass within its limits, or 0 where it is not set
+abbrev pub IsSoundMass : ℤ → Type 0
+IsSoundMass m = (m ≡ pos 0) ⊎ ((MIN_MASS ≤ℤ m) × (m ≤ℤ MAX_MASS))
+
+-- an atom inside the box, of a type of the box, with numbers within their limits
+pub record IsSoundAtom (s : Sides) (kinds : ℕ) (a : Atom) : Type 0 where
+  pub inside : IsInside s a.x
+  pub kind_low : 1 ≤ a.kind
+  pub kind_high : a.kind ≤ kinds
+  pub id_low : 1 ≤ a.id
+  pub id_high : a.id ≤ MAX_ID
+  pub v : IsWithin (unsigned_abs MAX_SPEED) a.v
+  pub f : IsWithin (unsigned_abs MAX_FORCE) a.f
+  pub image : IsWithin (unsigned_abs MAX_IMAGE) a.image
+
+pub record IsSoundBody (b : Body) : Type 0 where
+  pub step : b.step ≤ MAX_STEP
+  pub sides : IsSoundSides b.sides
+  pub some : 1 ≤ length b.mass
+  pub kinds : length b.mass ≤ MAX_KINDS
+  pub mass : All IsSoundMass b.mass
+  pub few : length b.atoms ≤ MAX_ATOMS
+  pub atoms : All (IsSoundAtom b.sides (length b.mass)) b.atoms
+  pub rising : Rises (ids_of b.atoms)
+
+-- a box has the dimension that was set
+abbrev pub IsOfSetup : Setup → Body → Type 0
+IsOfSetup s b = b.sides.dim ≡ s.dim
+
+pub record IsSound (s : Settings) : Type 0 where
+  pub setup : IsSoundSetup s.setup
+  pub force : IsSoundForce s.force
+  pub body : IfSome s.body IsSoundBody
+  pub dim : IfSome s.body (IsOfSetup s.setup)

@@ -1,0 +1,79 @@
+-- Variables, and what stands for their names in texts.
+use Rattle.std.specs.Prelude.{ℕ, Option, Some, None, Result, Ok, Err, List}
+use Rattle.fx_num.specs.declared.faults.FormulaFault.{FormulaFault}
+use Rattle.fx_num.specs.declared.faults.FormulaFault.TheVariants as formula
+use Rattle.fx_num.specs.declared.faults.VarFault.{VarFault}
+use Rattle.fx_num.specs.declared.faults.VarFault.TheVariants as var_fault
+use Rattle.command_words.specs.declared.variables.NewVariable.{NewVariable}
+use Rattle.command_words.specs.declared.variables.VariableStyle.{VariableStyle}
+use Rattle.command_words.specs.declared.variables.VariableStyle.TheVariants as new
+use Rattle.meaning.specs.declared.code.Code.{Code}
+use Rattle.meaning.specs.declared.code.Code.TheVariants as code
+use Rattle.meaning.specs.declared.settings.Settings.{Settings}
+use Rattle.meaning.specs.Outcome.{Outcome, answered, done, refused, silent, unbuilt}
+use Rattle.script_lines.specs.declared.refusals.ExpandRefusal.{ExpandRefusal}
+use Rattle.script_lines.specs.declared.refusals.ExpandRefusal.TheVariants.{BadDollar, Inner, NoMemory}
+use Rattle.script_lines.specs.Substitution.{Expansion, expansion}
+use Rattle.script_lines.specs.Table.{Table}
+use Rattle.var_table.specs.declared.styles.VarStyle.{VarStyle}
+use Rattle.var_table.specs.declared.styles.VarStyle.TheVariants as style
+use Rattle.var_table.specs.Variables.{Named, defined, text_in, without}
+
+-- the code of a formula's fault
+abbrev pub formula_code : FormulaFault → Code
+formula_code (formula.Syntax place) = code.Syntax
+formula_code (formula.Unknown name) = code.UnknownName
+formula_code (formula.DivideByZero place) = code.DivideByZero
+formula_code (formula.Range place) = code.FormulaRange
+formula_code (formula.NotNumber name) = code.NotNumber
+formula_code formula.TooDeep = code.TooDeep
+formula_code formula.NoMemory = code.Syntax
+
+-- the code of a variable's fault
+abbrev pub fault_code : VarFault → Code
+fault_code (var_fault.UnknownVariable name) = code.UnknownName
+fault_code (var_fault.Mixed name) = code.Mixed
+fault_code (var_fault.NotText name) = code.NotText
+fault_code (var_fault.Formula fault) = formula_code fault
+fault_code var_fault.NoMemory = code.UnknownName
+
+-- what stands for names: the texts of the variables. Formulas are not built yet, and a line that has one does not come so far.
+abbrev pub table_of : List Named → Table
+table_of vars = record { names = text_in vars; formulas = λ text. Err (var_fault.UnknownVariable text) }
+
+-- the code of a text in which a `$` stands for nothing
+abbrev pub expand_code : ExpandRefusal → Code
+expand_code (BadDollar place) = code.BadDollar
+expand_code (Inner fault) = fault_code fault
+expand_code NoMemory = code.BadDollar
+
+abbrev pub coded : {X : Type 0} → Result X ExpandRefusal → Result X Code
+coded (Ok x) = Ok x
+coded (Err why) = Err (expand_code why)
+
+-- a text with what stands for its names
+abbrev pub text_of : Settings → List ℕ → Result (List ℕ) Code
+text_of s text = coded (expansion (table_of s.vars) text)
+
+abbrev pub with_vars : Settings → List Named → Settings
+with_vars s vars = record s { vars = vars }
+
+-- a variable of this style: index and loop leave one that is there
+abbrev pub defines : List ℕ → VarStyle → Settings → Outcome
+defines name style s = done (with_vars s (defined s.vars name style))
+
+abbrev pub defines_text : List ℕ → Settings → Result (List ℕ) Code → Outcome
+defines_text name s (Ok text) = defines name (style.Plain text) s
+defines_text name s (Err why) = refused s why
+
+-- `variable`; those that hold formulas are not built yet
+abbrev pub variable_of : List ℕ → VariableStyle → Settings → Outcome
+variable_of name (new.Index values) s = defines name (style.Index values) s
+variable_of name (new.Loop range) s = defines name (style.Loop range.first range.last) s
+variable_of name (new.Equal formula) s = silent s unbuilt
+variable_of name (new.Atom formula) s = silent s unbuilt
+variable_of name (new.Plain text) s = defines_text name s (text_of s text)
+variable_of name new.Delete s = done (with_vars s (without s.vars name))
+
+abbrev pub variable : NewVariable → Settings → Outcome
+variable v s = variable_of v.name v.style s

@@ -1,0 +1,30 @@
+//! What commands and scripts mean: the state that a script works on, the codes of refusals, and, in `specs/`, the
+//! meaning of each command as one outcome: what it sends, the state after it, and how the script goes on.
+//!
+//! This crate has types and definitions alone. A family of commands has one file of definitions here, and a file of
+//! the same name in each crate above and below that has a part of it.
+#![tactic(auto)]
+
+mod code;
+mod fix_settings;
+mod force;
+mod going;
+mod named;
+mod output;
+mod pair_settings;
+mod refusal;
+mod settings;
+mod setup;
+mod uses;
+
+pub use code::Code;
+pub use fix_settings::FixSettings;
+pub use force::Force;
+pub use going::Going;
+pub use named::Named;
+pub use output::Output;
+pub use pair_settings::{PairCoefficients, PairSettings};
+pub use refusal::{Refusal, SettingsRefusal};
+pub use settings::{Body, Settings};
+pub use setup::Setup;
+pub use uses::{NameUse, UseKind, Uses, is_compressed};

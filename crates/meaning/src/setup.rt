@@ -1,0 +1,18 @@
+//! What is set up before there is a box, and the timestep.
+
+use box_geo::AtomStyle;
+
+/// What is set up before there is a box, and the timestep.
+#[derive(Clone, Copy)]
+pub struct Setup {
+    /// 2 or 3 dimensions.
+    pub dim: u8,
+    /// Whether each axis is periodic; else it is fixed.
+    pub periodic: [bool; 3],
+    /// What an atom may have besides a type.
+    pub style: AtomStyle,
+    /// The bricks along each axis that the script asks for.
+    pub grid: [u32; 3],
+    /// The timestep, in units.
+    pub timestep: i64,
+}

@@ -1,0 +1,19 @@
+//! The commands that change settings alone: a function a command, whose contract is its meaning. A refusal leaves the
+//! settings as they were. A family of commands has one file here, of the same name as its definitions.
+#![tactic(auto)]
+
+mod fixes;
+mod masses;
+mod neighbors;
+mod pairs;
+mod runs;
+mod setup;
+mod thermo;
+
+pub use fixes::{add_fix, remove_fix};
+pub use masses::set_masses;
+pub use neighbors::{set_comm_cutoff, set_skin};
+pub use pairs::{set_pair_coefficients, set_pair_style};
+pub use runs::reset_timestep;
+pub use setup::{set_atom_style, set_boundary, set_dimension, set_processors, set_timestep};
+pub use thermo::set_thermo;

@@ -1,9 +1,0 @@
-use Rattle.std.proofs.Common.{◌^◌, [], ◌∷◌, pos, take, All}
-use Rattle.step_engine.specs.Ranges.{IsMovable, IsPlaced}
-use Rattle.nve_run.proofs.tests.are_sound.Given as goal
-
-abbrev pub invariant-loop-atom : goal.invariant-loop-atom
-invariant-loop-atom l = record {
-  placed : All (IsPlaced l.pairs l.cell.sides) (take l.atom-index l.atoms);
-  movable : All (IsMovable (pos (2 ^ 24) ∷ [])) (take l.atom-index l.atoms);
-}

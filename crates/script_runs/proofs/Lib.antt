@@ -1,0 +1,12 @@
+pub mod DoesLemmas
+pub mod FieldLemmas
+pub mod IdLemmas
+pub mod JudgeLemmas
+pub mod KeyLemmas
+pub mod NumberLemmas
+pub mod PartLemmas
+pub mod ReadyLemmas
+pub mod RunLemmas
+pub mod ShowLemmas
+pub mod StepLemmas
+pub mod TableLemmas

@@ -1,0 +1,197 @@
+//! The parts of a run, from settings: the table of pairs, the fixes, the engine.
+ghost use Rattle.std.specs.Prelude.{◌≡◌, ◌≤◌, ◌&&◌, ◌⊎◌, ◌^◌, ◌+ℤ◌, cond, is_none, nat_le, pos, true, int_lt, length, None, Some, ℕ, IfOk, IsSome};
+ghost use Rattle.std.specs.List.{list_all};
+ghost use Rattle.std.specs.Option.{option_or};
+ghost use Rattle.fix_list.specs.Fixes.{Rises};
+ghost use Rattle.fix_list.specs.declared.fixes.Fix.TheVariants.{Nve};
+ghost use Rattle.meaning.specs.Fixes.{fixes_over, ids_of};
+ghost use Rattle.meaning.specs.Pairs.{are_all_set, is_of, numbers_of, reach_of};
+ghost use Rattle.meaning.specs.Sound.{IsSoundBody, IsSoundForce, IsSoundPair};
+ghost use Rattle.pair_lj.specs.Table.{kinds_of};
+ghost use Rattle.script_runs.specs.Engines.{IsEngineOf, IsTableOf, found_in};
+ghost use Rattle.serial_step.specs.Pairs.{IsOfKinds};
+ghost use Rattle.serial_step.specs.Room.{edge_too_small};
+ghost use Rattle.step_engine.specs.Ranges.{IsTimestep};
+
+use box_geo::limits::MAX_KINDS;
+use box_geo::{Atom, Ids, SimBox, System};
+use command_words::NewFix;
+use fix_list::{Fix, FixList, NamedFix};
+use fx_num::{NoMemory, Seq};
+use meaning::{Body, Force, PairCoefficients};
+use pair_lj::PairTable;
+use std::alloc::Global;
+use step_engine::{Engine, EngineRefusal, ForceField};
+
+/// The greatest of all cutoffs, in units.
+pub(crate) fn reach_of(force: &Force) -> u64
+    requires { IsSoundForce force.now }
+    ensures is { result ≡ reach_of force.now }
+    ensures high { result ≤ 2 ^ 28 }
+{
+    let mut most = force.comm_cutoff.unsigned_abs();
+    for pair in force.pairs.as_slice() {
+        most = most.max(pair.cutoff.unsigned_abs());
+    }
+    most
+}
+
+/// Gives a table of so many types a pair, unless its types have one, or there are no such types.
+fn set_pair(table: &mut PairTable, kinds: u8, pair: &PairCoefficients)
+    requires kinds { kinds_of table.old ≡ kinds }
+    requires sound { IsSoundPair pair.now }
+    ensures kinds { kinds_of table.new ≡ kinds_of table.old }
+    ensures set { (i j : ℕ) → IsOfKinds kinds i → IsOfKinds kinds j
+        → found_in table.new i j ≡ option_or (found_in table.old i j) (cond (is_of i j pair.now) (Some (numbers_of pair.now)) None) }
+    ensures no_more { (i j : ℕ) → (found_in table.new i j ≡ found_in table.old i j) ⊎ (found_in table.new i j ≡ Some (numbers_of pair.now)) }
+{
+    if lacks(table, kinds, pair) {
+        table.set(pair.i, pair.j, pair.epsilon, pair.sigma, pair.cutoff);
+    }
+}
+
+/// Whether a table of so many types has the types of a pair, and no coefficients for them.
+fn lacks(table: &PairTable, kinds: u8, pair: &PairCoefficients) -> bool
+    requires kinds { kinds_of table.now ≡ kinds }
+    requires sound { IsSoundPair pair.now }
+    ensures { result ≡ (nat_le pair.now.j kinds && is_none (found_in table.now pair.now.i pair.now.j)) }
+{
+    pair.j <= kinds && table.coeff(pair.i, pair.j).is_none()
+}
+
+/// The table of the pairs that are set, for so many types.
+fn table_of(alloc: Global, force: &Force, kinds: u8) -> Result<PairTable, NoMemory>
+    requires force { IsSoundForce force.now }
+    requires style { IsSome force.now.pair_style }
+    requires some { 1 ≤ kinds }
+    requires few { kinds ≤ MAX_KINDS }
+    requires set { are_all_set kinds force.now.pairs ≡ true }
+    ensures { IfOk result (IsTableOf kinds force.now) }
+{
+    let mut table = PairTable::new(alloc, kinds, force.pair_style.unwrap())?;
+    for pair in force.pairs.as_slice() {
+        set_pair(&mut table, kinds, pair);
+    }
+    match table.finish() {
+        Ok(()) => Ok(table),
+        Err(_) => unreachable!(),
+    }
+}
+
+/// The ids of the atoms.
+fn ids_of(alloc: Global, atoms: &[Atom]) -> Result<Ids, NoMemory>
+    ensures { IfOk result (λ ids. ids ≡ ids_of atoms.now) }
+{
+    let mut ids = Seq::new(alloc);
+    for atom in atoms {
+        ids.push(atom.id)?;
+    }
+    Ok(ids)
+}
+
+/// A fix over all of these atoms.
+fn fix_over(alloc: Global, atoms: &[Atom], fix: &NewFix) -> Result<NamedFix, NoMemory>
+    ensures { IfOk result (λ named. named ≡ record { name = fix.now.id; fix = Nve (ids_of atoms.now) }) }
+{
+    Ok(NamedFix {
+        name: fix.id.copy(alloc)?,
+        fix: Fix::Nve(ids_of(alloc, atoms)?),
+    })
+}
+
+/// The fixes of a run over these atoms, whose ids stand in strictly rising order.
+pub(crate) fn fixes_over(
+    alloc: Global,
+    atoms: &[Atom],
+    fixes: &[NewFix],
+) -> Result<FixList, NoMemory>
+    requires { Rises (ids_of atoms.now) }
+    ensures { IfOk result (λ list. list ≡ fixes_over atoms.now fixes.now) }
+{
+    let mut items = Vec::new(alloc);
+    for fix in fixes {
+        items.push(fix_over(alloc, atoms, fix)?)?;
+    }
+    Ok(FixList::from_vec(items))
+}
+
+/// The system of a body, under a timestep.
+fn system_of(dt: i64, body: Body) -> System
+    requires { IsSoundBody body }
+    ensures step { result.step ≡ body.step }
+    ensures dt { result.dt ≡ dt }
+    ensures sides { result.cell.sides ≡ body.sides }
+    ensures mass { result.mass ≡ body.mass }
+    ensures atoms { result.atoms ≡ body.atoms }
+    ensures bonds { result.bonds ≡ body.bonds }
+    ensures angles { result.angles ≡ body.angles }
+{
+    let Body {
+        step,
+        sides,
+        mass,
+        atoms,
+        bonds,
+        angles,
+    } = body;
+    System {
+        step,
+        dt,
+        cell: SimBox::from_sides(sides),
+        mass,
+        atoms,
+        bonds,
+        angles,
+    }
+}
+
+/// The engine of a body, under these forces and this timestep. All that it rests on is set, and each edge has room.
+pub(crate) fn engine_of(
+    alloc: Global,
+    force: &Force,
+    dt: i64,
+    body: Body,
+) -> Result<Engine, NoMemory>
+    requires force { IsSoundForce force.now }
+    requires timestep { IsTimestep dt }
+    requires body { IsSoundBody body }
+    requires style { IsSome force.now.pair_style }
+    requires massive { list_all (λ m. int_lt (pos 0) m) body.mass ≡ true }
+    requires set { are_all_set (length body.mass) force.now.pairs ≡ true }
+    requires room { edge_too_small body.sides (pos (reach_of force.now) +ℤ force.now.skin) ≡ None }
+    ensures { IfOk result (IsEngineOf force.now dt (length body.mass) body) }
+{
+    let kinds = body.mass.len() as u8;
+    let field = ForceField {
+        pairs: table_of(alloc, force, kinds)?,
+        rcmax: reach_of(force) as i64,
+    };
+    match Engine::new(alloc, system_of(dt, body), field, force.skin) {
+        Ok(engine) => Ok(engine),
+        Err(EngineRefusal::NoMemory) => Err(NoMemory),
+        Err(EngineRefusal::EdgeTooSmall(_)) => unreachable!(),
+    }
+}
+
+/// What is in the box after a run.
+pub(crate) fn body_of(engine: Engine) -> Body
+    ensures { result ≡ record { step = engine.state.step; sides = engine.rules.cell.sides; mass = engine.rules.mass; atoms = engine.state.atoms; bonds = engine.bonds; angles = engine.angles } }
+{
+    let System {
+        step,
+        dt: _,
+        cell,
+        mass,
+        atoms,
+        bonds,
+        angles,
+    } = engine.into_system();
+    Body {
+        step,
+        sides: cell.sides,
+        mass,
+        atoms,
+        bonds,
+        angles,
+    }
+}

@@ -1,0 +1,100 @@
+//! `run`: set-up, and the steps, with what is due after each.
+ghost use Rattle.std.specs.Prelude.{◌≡◌, ◌≤◌, Some, None, IfErr, OnOk};
+ghost use Rattle.meaning.specs.Causes.{Counted, Kept, Rests, Stays, press_alone};
+ghost use Rattle.meaning.specs.Runs.{after_run, run, run_code, run_of, setting_of};
+ghost use Rattle.meaning.specs.Sends.{Does};
+ghost use Rattle.meaning.specs.Sound.{IsSound};
+ghost use Rattle.script_runs.specs.Engines.{IsReady};
+
+use crate::judge::{last_step, run_code};
+use crate::parts::{body_of, engine_of, fixes_over};
+use crate::steps::run_engine;
+use box_geo::limits::MAX_STEP;
+use fx_num::Steps;
+use meaning::{Body, Code, Refusal, Settings};
+use outside::Press;
+use std::alloc::Global;
+use std::sync::ledger::Ledger;
+
+/// Runs `n` steps, or up to the step of that number. It is judged before anything is changed: a code leaves the settings as they were.
+///
+/// # Errors
+///
+/// `Code` with the code; `Range` with the key and the step of a fault, after which output has the uses of names as sent; `WriteFault`
+/// only where the press failed; `NoMemory`. After these but the first what is in the box is gone.
+pub fn run<P: Press, L: Ledger>(
+    alloc: Global,
+    settings: &mut Settings,
+    upto: bool,
+    n: u64,
+    press: &mut P,
+    steps: &mut Steps<L>,
+) -> Result<(), Refusal>
+    requires sound { IsSound settings.old }
+    requires limit { n ≤ MAX_STEP }
+    ensures does { Does (run upto n settings.old) (P.sent press.old) result (P.sent press.new) settings.new }
+    ensures counted { Counted (run upto n settings.old).pairs steps.old result steps.new }
+    ensures sound { OnOk result (IsSound settings.new) }
+    ensures cause { IfErr result (λ why. Rests why (press_alone (P.faults press.old)) (press_alone (P.faults press.new))) }
+    ensures kept { Kept (press_alone (P.faults press.old)) (press_alone (P.faults press.new)) }
+    ensures stays { Stays result (press_alone (P.faults press.old)) (press_alone (P.faults press.new)) }
+{
+    let body = match settings.body.take() {
+        Some(body) => body,
+        None => return Err(Refusal::Code(Code::NoBox)),
+    };
+    if let Some(code) = run_code(settings, &body, upto, n) {
+        settings.body = Some(body);
+        return Err(Refusal::Code(code));
+    }
+    let last = last_step(upto, n, body.step);
+    run_ready(alloc, settings, body, last, press, steps)
+}
+
+/// Runs a body up to a last step, where nothing refuses it.
+fn run_ready<P: Press, L: Ledger>(
+    alloc: Global,
+    settings: &mut Settings,
+    body: Body,
+    last: u64,
+    press: &mut P,
+    steps: &mut Steps<L>,
+) -> Result<(), Refusal>
+    requires sound { IsSound (record settings.old { body = Some body }) }
+    requires ahead { body.step ≤ last }
+    requires last { last ≤ MAX_STEP }
+    requires ready { IsReady settings.old body }
+    ensures does { Does (after_run settings.old body (run_of (setting_of settings.old body) settings.old.output last body.step body.atoms settings.old.output.uses)) (P.sent press.old) result (P.sent press.new) settings.new }
+    ensures counted { Counted (run_of (setting_of settings.old body) settings.old.output last body.step body.atoms settings.old.output.uses).pairs steps.old result steps.new }
+    ensures sound { OnOk result (IsSound settings.new) }
+    ensures cause { IfErr result (λ why. Rests why (press_alone (P.faults press.old)) (press_alone (P.faults press.new))) }
+    ensures kept { Kept (press_alone (P.faults press.old)) (press_alone (P.faults press.new)) }
+    ensures stays { Stays result (press_alone (P.faults press.old)) (press_alone (P.faults press.new)) }
+{
+    let fixes = match fixes_over(
+        alloc,
+        body.atoms.as_slice(),
+        settings.named.fixes.as_slice(),
+    ) {
+        Ok(fixes) => fixes,
+        Err(_) => return Err(Refusal::NoMemory),
+    };
+    let mut engine = match engine_of(alloc, &settings.force, settings.setup.timestep, body) {
+        Ok(engine) => engine,
+        Err(_) => return Err(Refusal::NoMemory),
+    };
+    match run_engine(
+        alloc,
+        &mut settings.output,
+        &mut engine,
+        &fixes,
+        last,
+        press,
+        steps,
+    ) {
+        Ok(()) => {}
+        Err(why) => return Err(why),
+    }
+    settings.body = Some(body_of(engine));
+    Ok(())
+}

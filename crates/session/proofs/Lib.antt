@@ -1,0 +1,5 @@
+pub mod CauseLemmas
+pub mod ExecuteLemmas
+pub mod FileLemmas
+pub mod OtherLemmas
+pub mod PlayLemmas

@@ -1,0 +1,54 @@
+-- Answers of the parts of a script as refusals of a command.
+use Rattle.std.specs.Prelude.{Result, Ok, Err}
+use Rattle.command_words.specs.declared.refusal.WordRefusal.{WordRefusal}
+use Rattle.command_words.specs.declared.refusal.WordRefusal.TheVariants as word
+use Rattle.meaning.specs.declared.code.Code.{Code}
+use Rattle.meaning.specs.declared.going.Going.{Going}
+use Rattle.meaning.specs.declared.going.Going.TheVariants.{On}
+use Rattle.meaning.specs.declared.refusal.Refusal.{Refusal}
+use Rattle.meaning.specs.declared.refusal.Refusal.TheVariants as refusal
+use Rattle.meaning.specs.declared.refusal.SettingsRefusal.{SettingsRefusal}
+use Rattle.meaning.specs.declared.refusal.SettingsRefusal.TheVariants as settings
+use Rattle.meaning.specs.Lines.{word_code}
+use Rattle.meaning.specs.Variables.{expand_code}
+use Rattle.outside.specs.declared.press.PutRefusal.{PutRefusal}
+use Rattle.outside.specs.declared.press.PutRefusal.TheVariants as put
+use Rattle.script_lines.specs.declared.refusals.ExpandRefusal.{ExpandRefusal}
+use Rattle.script_lines.specs.declared.refusals.ExpandRefusal.TheVariants as expand
+
+-- of a text in which a `$` stands for nothing
+abbrev pub expand_refusal : ExpandRefusal → SettingsRefusal
+expand_refusal expand.NoMemory = settings.NoMemory
+expand_refusal (expand.BadDollar place) = settings.Code (expand_code (expand.BadDollar place))
+expand_refusal (expand.Inner fault) = settings.Code (expand_code (expand.Inner fault))
+
+-- of a command that changes settings alone
+abbrev pub widened : SettingsRefusal → Refusal
+widened (settings.Code code) = refusal.Code code
+widened settings.NoMemory = refusal.NoMemory
+
+-- of a text that was not put
+abbrev pub put_refusal : PutRefusal → Refusal
+put_refusal put.Faulted = refusal.WriteFault
+put_refusal put.NoMemory = refusal.NoMemory
+
+-- what a command answers that does not quit
+abbrev pub on_of : Result Unit Refusal → Result Going Refusal
+on_of (Ok done) = Ok On
+on_of (Err why) = Err why
+
+abbrev pub coded_of : Result Unit Code → Result Going Refusal
+coded_of (Ok done) = Ok On
+coded_of (Err code) = Err (refusal.Code code)
+
+abbrev pub changed_of : Result Unit SettingsRefusal → Result Going Refusal
+changed_of (Ok done) = Ok On
+changed_of (Err why) = Err (widened why)
+
+-- of words that are no command
+abbrev pub word_refusal : WordRefusal → Refusal
+word_refusal word.NoMemory = refusal.NoMemory
+word_refusal word.UnknownCommand = refusal.Code (word_code word.UnknownCommand)
+word_refusal word.WordCount = refusal.Code (word_code word.WordCount)
+word_refusal (word.BadWord place) = refusal.Code (word_code (word.BadWord place))
+word_refusal (word.BadValue place) = refusal.Code (word_code (word.BadValue place))

@@ -1,0 +1,130 @@
+//! Each command by its function.
+ghost use Rattle.meaning.specs.Causes.{Counted, Kept, Rests, Stays, nothing_lent, shelf_and_press};
+ghost use Rattle.meaning.specs.Commands.{atoms_of_style, fix_of, outcome_of};
+ghost use Rattle.command_words.specs.Limits.{KeepsLimits};
+ghost use Rattle.meaning.specs.Sends.{Changes, Executes};
+ghost use Rattle.meaning.specs.Sound.{IsSound};
+ghost use Rattle.outside.specs.declared.files.File.{File};
+ghost use Rattle.std.specs.Prelude.{◌≡◌, List, Some, IfErr, OnOk};
+
+use crate::answers::{changed, decided, on_of, widened};
+use crate::output::{print, set_log};
+use crate::session::clear;
+use crate::system_files::read_data;
+use crate::variables::set_variable;
+use box_geo::AtomStyle;
+use command_words::{Command, FixStyle, NewFix};
+use fx_num::Steps;
+use meaning::{Going, Refusal, Settings};
+use outside::{Press, Shelf};
+use run_settings::{
+    add_fix, remove_fix, reset_timestep, set_atom_style, set_boundary, set_comm_cutoff,
+    set_dimension, set_masses, set_pair_coefficients, set_pair_style, set_processors, set_skin,
+    set_thermo, set_timestep,
+};
+use script_runs::run;
+use std::alloc::Global;
+use std::sync::ledger::Ledger;
+
+/// Carries a command out.
+///
+/// # Errors
+///
+/// The code of the command; the key and the step of a range fault; `NotBuilt`; `ReadFault` and `WriteFault` only where the shelf or
+/// the press failed; `NoMemory`.
+pub fn execute<S: Shelf, P: Press, L: Ledger>(
+    alloc: Global,
+    settings: &mut Settings,
+    command: Command,
+    shelf: &mut S,
+    press: &mut P,
+    steps: &mut Steps<L>,
+) -> Result<Going, Refusal>
+    requires sound { IsSound settings.old }
+    requires limits { KeepsLimits command }
+    ensures does { (files : List File) → S.stock shelf.old ≡ Some files → Executes (outcome_of files command settings.old) (P.sent press.old) result (P.sent press.new) settings.new }
+    ensures counted { (files : List File) → S.stock shelf.old ≡ Some files → Counted (outcome_of files command settings.old).pairs steps.old result steps.new }
+    ensures sound { OnOk result (IsSound settings.new) }
+    ensures cause { IfErr result (λ why. Rests why (shelf_and_press (S.stock shelf.old) (S.faults shelf.old) (S.absent shelf.old) (P.faults press.old)) (shelf_and_press (S.stock shelf.new) (S.faults shelf.new) (S.absent shelf.new) (P.faults press.new))) }
+    ensures kept { Kept (shelf_and_press (S.stock shelf.old) (S.faults shelf.old) (S.absent shelf.old) (P.faults press.old)) (shelf_and_press (S.stock shelf.new) (S.faults shelf.new) (S.absent shelf.new) (P.faults press.new)) }
+    ensures stays { Stays result (shelf_and_press (S.stock shelf.old) (S.faults shelf.old) (S.absent shelf.old) (P.faults press.old)) (shelf_and_press (S.stock shelf.new) (S.faults shelf.new) (S.absent shelf.new) (P.faults press.new)) }
+{
+    match command {
+        Command::Units
+        | Command::Newton
+        | Command::AtomModify
+        | Command::Echo
+        | Command::NeighModify => Ok(Going::On),
+        Command::Dimension(dim) => decided(set_dimension(settings, dim)),
+        Command::Boundary(periodic) => decided(set_boundary(settings, periodic)),
+        Command::AtomStyle(style) => on_of(set_style(settings, style)),
+        Command::Processors(grid) => decided(set_processors(settings, grid)),
+        Command::ReadData(name) => on_of(read_data(alloc, settings, &name, shelf)),
+        Command::Mass(mass) => changed(set_masses(settings, alloc, &mass)),
+        Command::PairStyle(cutoff) => decided(set_pair_style(settings, cutoff)),
+        Command::PairCoeff(pair) => changed(set_pair_coefficients(settings, alloc, &pair)),
+        Command::Neighbor(skin) => {
+            set_skin(settings, skin);
+            Ok(Going::On)
+        }
+        Command::CommModify(cutoff) => {
+            set_comm_cutoff(settings, cutoff);
+            Ok(Going::On)
+        }
+        Command::Fix(fix) => on_of(set_fix(settings, fix)),
+        Command::Unfix(id) => decided(remove_fix(settings, &id)),
+        Command::Thermo(every) => {
+            set_thermo(settings, every);
+            Ok(Going::On)
+        }
+        Command::Run(asked) => {
+            on_of(run(alloc, settings, asked.upto, asked.steps, press, steps))
+        }
+        Command::Timestep(dt) => {
+            set_timestep(settings, dt);
+            Ok(Going::On)
+        }
+        Command::ResetTimestep(step) => decided(reset_timestep(settings, step)),
+        Command::Print(text) => on_of(print(alloc, settings, &text, press)),
+        Command::Log(name) => changed(set_log(alloc, settings, name)),
+        Command::Variable(variable) => on_of(set_variable(alloc, settings, variable)),
+        Command::Clear => {
+            clear(alloc, settings);
+            Ok(Going::On)
+        }
+        Command::Quit => Ok(Going::Quit),
+        _ => Err(Refusal::NotBuilt),
+    }
+}
+
+/// `atom_style`; other styles than `atomic` are not built yet.
+fn set_style(settings: &mut Settings, style: AtomStyle) -> Result<(), Refusal>
+    requires sound { IsSound settings.old }
+    ensures changes { Changes (atoms_of_style style settings.old) result settings.new }
+    ensures sound { OnOk result (IsSound settings.new) }
+    ensures cause { IfErr result (λ why. Rests why nothing_lent nothing_lent) }
+{
+    let AtomStyle::Atomic = style else {
+        return Err(Refusal::NotBuilt);
+    };
+    match set_atom_style(settings, AtomStyle::Atomic) {
+        Ok(()) => Ok(()),
+        Err(code) => Err(Refusal::Code(code)),
+    }
+}
+
+/// `fix`; those of other styles are not built yet.
+fn set_fix(settings: &mut Settings, fix: NewFix) -> Result<(), Refusal>
+    requires sound { IsSound settings.old }
+    ensures changes { Changes (fix_of fix.style fix settings.old) result settings.new }
+    ensures sound { OnOk result (IsSound settings.new) }
+    ensures cause { IfErr result (λ why. Rests why nothing_lent nothing_lent) }
+{
+    let FixStyle::Nve = fix.style else {
+        return Err(Refusal::NotBuilt);
+    };
+    match add_fix(settings, fix) {
+        Ok(()) => Ok(()),
+        Err(why) => Err(widened(why)),
+    }
+}

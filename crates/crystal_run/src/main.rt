@@ -14,7 +14,6 @@ fn main(rt: HostRuntime) -> ExitCode {
         read_words(&rt),
         &mut shelf,
         &mut press,
-        &mut rt.stdout(),
         &mut rt.stderr(),
     )
 }

@@ -1,4 +1,1 @@
-mod EndLemmas
-mod PartLemmas
 mod Worked
-mod WorkedLimits

@@ -1,151 +1,81 @@
--- Worked runs: the serial meaning of whole texts, against logs that were worked out by hand.
-use Rattle.std.proofs.Common.{◌≡◌, ◌++◌, ◌∷◌, [], ℕ, List, true, false, refl}
+-- Worked command lines: what words ask for, and where they have no reading.
+use Rattle.std.proofs.Common.{◌≡◌, ◌∷◌, [], Some, Ok, Err, true, false, refl}
 use Rattle.std.specs.Prelude.{codes}
-use Rattle.std.specs.Fmt.{digits}
-use Rattle.fx_num.specs.Rounding.{nearest_of, div_rounded}
-use Rattle.fx_num.specs.Decimal.{read_count, read_number, decimal_of, decimal_units}
-use Rattle.fx_num.specs.Print.{fix_text}
-use Rattle.box_geo.specs.Sides.{near_image, volume_of}
-use Rattle.box_geo.specs.Wrap.{wrap}
-use Rattle.pair_lj.specs.PairTerm.{inverse_square, sixth_power, twelfth_power, strength, energy_at, force_along, weighted_term, pair_term}
-use Rattle.computes.specs.Quantities.{energy_share, kinetic_share, kinetic_sum, pressure, temperature}
-use Rattle.thermo_text.specs.Thermo.{header_text, line_text, footer_text}
-use Rattle.outside.specs.declared.files.File.{File}
-use Rattle.log_output.specs.Faults.{fault_text}
-use Rattle.log_output.specs.Log.{log_text}
-use Rattle.input_text.specs.Forms.{words_of}
-use Rattle.input_text.specs.Names.{is_input_name}
-use Rattle.input_text.specs.Readers.{here}
-use Rattle.nve_script.specs.Script.{coefficients, head, script, settings}
-use Rattle.nve_data.specs.Data.{atoms_given, count, data_file, header, mass, position_row, positions_section, sides, title, velocities_given, velocity_row}
-use Rattle.nve_run.specs.Run.{told_from, told_of}
-use Rattle.nve_run.specs.Work.{pairs_from, pairs_of}
-use Rattle.serial_step.specs.Forces.{forces_fault, force_on, pair_energy, pair_virial, term_of, terms_fault, with_forces}
-use Rattle.serial_step.specs.Rebuild.{neighbour_pairs, renews}
-use Rattle.serial_step.specs.Room.{edge_too_small}
-use Rattle.serial_step.specs.Step.{drifted, kicked_again, serial_step, set_up}
-use Rattle.fxlmp_top.specs.declared.code.Code.TheVariants.{EdgeTooSmall, NoFile}
-use Rattle.fxlmp_top.specs.declared.status.Status.TheVariants.{Done, RangeFault, ScriptRefused}
-use Rattle.fxlmp_top.specs.Serial.{refusal_text, serial}
+use Rattle.fxlmp_top.specs.declared.asked.LogChoice.TheVariants.{Default, File, Nowhere}
+use Rattle.fxlmp_top.specs.Words.{asked}
 
-script_text : List ℕ → List ℕ
-script_text lines = codes "units lj\natom_style atomic\nread_data d.txt\npair_style lj/cut 2.5\npair_coeff 1 1 1.0 1.0\n" ++ lines
+-- the script alone
+script_alone : asked (codes "-in" ∷ codes "in.melt" ∷ [])
+    ≡ Ok record { script = Some record { place = 1; name = codes "in.melt" }; log = Default; screen = true; vars = [] }
+script_alone = refl
 
-sides_text : List ℕ → List ℕ
-sides_text high = codes "0 " ++ high ++ codes " xlo xhi\n0 " ++ high ++ codes " ylo yhi\n0 " ++ high ++ codes " zlo zhi\n\nMasses\n\n1 1.0\n\nAtoms\n\n"
+-- short words, in another order, and all that may be asked for
+all_words : asked (codes "-sc" ∷ codes "none" ∷ codes "-v" ∷ codes "x" ∷ codes "1" ∷ codes "-2" ∷ codes "-l" ∷ codes "a.log" ∷ codes "-i" ∷ codes "in.melt" ∷ [])
+    ≡ Ok record {
+      script = Some record { place = 9; name = codes "in.melt" };
+      log = File (codes "a.log");
+      screen = false;
+      vars = record { name = codes "x"; values = codes "1" ∷ codes "-2" ∷ [] } ∷ [];
+    }
+all_words = refl
 
-two_atoms : List ℕ → List ℕ → List ℕ → List ℕ
-two_atoms high first second =
-    codes "two atoms\n\n2 atoms\n1 atom types\n" ++ sides_text high ++ codes "1 1 " ++ first ++ codes " 5 5\n2 1 " ++ second ++ codes " 5 5\n"
+-- a variable of two values before the script
+variable_first : asked (codes "-var" ∷ codes "v" ∷ codes "1" ∷ codes "2" ∷ codes "-in" ∷ codes "f" ∷ [])
+    ≡ Ok record {
+      script = Some record { place = 5; name = codes "f" };
+      log = Default;
+      screen = true;
+      vars = record { name = codes "v"; values = codes "1" ∷ codes "2" ∷ [] } ∷ [];
+    }
+variable_first = refl
 
-files : List ℕ → List ℕ → List File
-files lines contents =
-    record { name = codes "s.in"; bytes = script_text lines } ∷ record { name = codes "d.txt"; bytes = contents } ∷ []
+-- the log's name is free for the script where there is no log
+log_off : asked (codes "-in" ∷ codes "log.lammps" ∷ codes "-log" ∷ codes "none" ∷ [])
+    ≡ Ok record { script = Some record { place = 1; name = codes "log.lammps" }; log = Nowhere; screen = true; vars = [] }
+log_off = refl
 
-at : List ℕ → List ℕ → List File
-at first second = files (codes "run 0\n") (two_atoms (codes "10") first second)
+no_words : asked [] ≡ Err 0
+no_words = refl
 
-words : List (List ℕ)
-words = codes "-in" ∷ codes "s.in" ∷ []
+no_name : asked (codes "-in" ∷ []) ≡ Err 1
+no_name = refl
 
-header_line : List ℕ
-header_line = codes "      Step                 Temp               E_pair                E_mol               TotEng                Press\n"
+word_too_many : asked (codes "-in" ∷ codes "a" ∷ codes "b" ∷ []) ≡ Err 2
+word_too_many = refl
 
--- two atoms at distance 2
-at_two : serial (at (codes "4") (codes "6")) words ≡ record {
-  pieces =
-      log_text true header_line
-      ++ log_text false (codes "         0           0.00000000          -0.03076172           0.00000000          -0.03076172          -0.00012112\n")
-      ++ log_text false (codes "Neighbor pairs 1 builds 0\n");
-  status = Done;
-  pairs = 1;
-}
-unfolding script_text sides_text two_atoms files at words serial script head here coefficients settings data_file header count sides title mass atoms_given positions_section position_row words_of is_input_name read_number read_count decimal_of decimal_units nearest_of div_rounded edge_too_small told_of pairs_of set_up with_forces force_on forces_fault terms_fault term_of pair_energy pair_virial near_image pair_term weighted_term force_along energy_at strength twelfth_power sixth_power inverse_square header_line told_from pairs_from neighbour_pairs fix_text volume_of kinetic_sum temperature kinetic_share energy_share pressure header_text line_text footer_text digits
-at_two = refl
+-- the later of two equal names
+script_is_log : asked (codes "-log" ∷ codes "x" ∷ codes "-in" ∷ codes "x" ∷ []) ≡ Err 3
+script_is_log = refl
 
--- at distance 1
-at_one : serial (at (codes "4") (codes "5")) words ≡ record {
-  pieces =
-      log_text true header_line
-      ++ log_text false (codes "         0           0.00000000           0.00000000           0.00000000           0.00000000           0.00800002\n")
-      ++ log_text false (codes "Neighbor pairs 1 builds 0\n");
-  status = Done;
-  pairs = 1;
-}
-unfolding script_text sides_text two_atoms files at words serial script head here coefficients settings data_file header count sides title mass atoms_given positions_section position_row words_of is_input_name read_number read_count decimal_of decimal_units nearest_of div_rounded edge_too_small told_of pairs_of set_up with_forces force_on forces_fault terms_fault term_of pair_energy pair_virial near_image pair_term weighted_term force_along energy_at strength twelfth_power sixth_power inverse_square header_line told_from pairs_from neighbour_pairs fix_text volume_of kinetic_sum temperature kinetic_share energy_share pressure header_text line_text footer_text digits
-at_one = refl
+log_is_script : asked (codes "-in" ∷ codes "x" ∷ codes "-log" ∷ codes "x" ∷ []) ≡ Err 3
+log_is_script = refl
 
--- at the cutoff
-at_cutoff : serial (at (codes "3") (codes "5.5")) words ≡ record {
-  pieces =
-      log_text true header_line
-      ++ log_text false (codes "         0           0.00000000           0.00000000           0.00000000           0.00000000           0.00000000\n")
-      ++ log_text false (codes "Neighbor pairs 1 builds 0\n");
-  status = Done;
-  pairs = 1;
-}
-unfolding script_text sides_text two_atoms files at words serial script head here coefficients settings data_file header count sides title mass atoms_given positions_section position_row words_of is_input_name read_number read_count decimal_of decimal_units nearest_of div_rounded edge_too_small told_of pairs_of set_up with_forces force_on forces_fault terms_fault term_of pair_energy pair_virial near_image pair_term weighted_term force_along energy_at strength twelfth_power sixth_power inverse_square header_line told_from pairs_from neighbour_pairs fix_text volume_of kinetic_sum temperature kinetic_share energy_share pressure header_text line_text footer_text digits
-at_cutoff = refl
+-- the default name of the log
+script_is_default_log : asked (codes "-in" ∷ codes "log.lammps" ∷ []) ≡ Err 1
+script_is_default_log = refl
 
--- too close
-too_close : serial (at (codes "5") (codes "5.2")) words ≡ record {
-  pieces = log_text true (codes "ERROR: Close 1 2 in forces at step 0\n");
-  status = RangeFault record { phase = 2; kind = 1; a = 1; b = 2 } 0;
-  pairs = 1;
-}
-unfolding script_text sides_text two_atoms files at words serial script head here coefficients settings data_file header count sides title mass atoms_given positions_section position_row words_of is_input_name read_number read_count decimal_of decimal_units nearest_of div_rounded edge_too_small told_of pairs_of set_up with_forces force_on forces_fault terms_fault term_of pair_energy pair_virial near_image pair_term weighted_term force_along energy_at strength twelfth_power sixth_power inverse_square fault_text digits
-too_close = refl
+compressed : asked (codes "-in" ∷ codes "in.melt.gz" ∷ []) ≡ Err 1
+compressed = refl
 
--- no script
-no_file : serial (at (codes "4") (codes "6")) (codes "-in" ∷ codes "nofile" ∷ []) ≡ record {
-  pieces = log_text true (codes "ERROR: NoFile at nofile:0\n");
-  status = ScriptRefused NoFile (codes "nofile") 0;
-  pairs = 0;
-}
-unfolding script_text sides_text two_atoms files at serial is_input_name refusal_text digits
-no_file = refl
+-- a variable without a value
+no_value : asked (codes "-var" ∷ codes "v" ∷ codes "-in" ∷ codes "f" ∷ []) ≡ Err 2
+no_value = refl
 
--- twice the sum of the cutoff and the skin is 93952410 units; an edge of one unit less is refused
-small_box : serial (files (codes "run 0\n") (two_atoms (codes "5.59999996") (codes "1") (codes "3"))) words ≡ record {
-  pieces = log_text true (codes "ERROR: EdgeTooSmall at s.in:6\n");
-  status = ScriptRefused EdgeTooSmall (codes "s.in") 6;
-  pairs = 0;
-}
-unfolding script_text sides_text two_atoms files at words serial script head here coefficients settings data_file header count sides title mass atoms_given positions_section position_row words_of is_input_name read_number read_count decimal_of decimal_units nearest_of div_rounded edge_too_small refusal_text digits
-small_box = refl
+no_value_at_end : asked (codes "-in" ∷ codes "f" ∷ codes "-var" ∷ codes "v" ∷ []) ≡ Err 4
+no_value_at_end = refl
 
-wide_box : (serial (files (codes "run 0\n") (two_atoms (codes "5.6") (codes "1") (codes "3"))) words).status ≡ Done
-unfolding script_text sides_text two_atoms files at words serial script head here coefficients settings data_file header count sides title mass atoms_given positions_section position_row words_of is_input_name read_number read_count decimal_of decimal_units nearest_of div_rounded edge_too_small told_of pairs_of set_up with_forces force_on forces_fault terms_fault term_of pair_energy pair_virial near_image pair_term weighted_term force_along energy_at strength twelfth_power sixth_power inverse_square told_from pairs_from
-wide_box = refl
+no_variable_name : asked (codes "-in" ∷ codes "f" ∷ codes "-var" ∷ codes "a-b" ∷ codes "1" ∷ []) ≡ Err 3
+no_variable_name = refl
 
--- one atom near the side of the box, with velocity 1
-one_atom : List ℕ
-one_atom = codes "one atom\n\n1 atoms\n1 atom types\n" ++ sides_text (codes "10") ++ codes "1 1 9.75 5 5\n\nVelocities\n\n1 1 0 0\n"
+-- a word that is not built yet
+grid : asked (codes "-grid" ∷ codes "1" ∷ codes "1" ∷ codes "1" ∷ codes "-in" ∷ codes "f" ∷ []) ≡ Err 0
+grid = refl
 
--- it wraps in one step, and the references are renewed
-wraps : serial (files (codes "timestep 0.5\nfix 1 all nve\nrun 1\n") one_atom) words ≡ record {
-  pieces =
-      log_text true header_line
-      ++ log_text false (codes "         0           0.00000000           0.00000000           0.00000000           0.50000000           0.00033331\n")
-      ++ log_text false (codes "         1           0.00000000           0.00000000           0.00000000           0.50000000           0.00033331\n")
-      ++ log_text false (codes "Neighbor pairs 0 builds 1\n");
-  status = Done;
-  pairs = 0;
-}
-unfolding one_atom script_text sides_text two_atoms files at words serial script head here coefficients settings data_file header count sides title mass atoms_given positions_section position_row words_of is_input_name read_number read_count decimal_of decimal_units nearest_of div_rounded edge_too_small told_of pairs_of set_up with_forces force_on forces_fault terms_fault term_of pair_energy pair_virial near_image pair_term weighted_term force_along energy_at strength twelfth_power sixth_power inverse_square header_line told_from pairs_from neighbour_pairs fix_text volume_of kinetic_sum temperature kinetic_share energy_share pressure header_text line_text footer_text digits velocities_given velocity_row serial_step drifted kicked_again wrap renews
-wraps = refl
+second_script : asked (codes "-in" ∷ codes "a" ∷ codes "-i" ∷ codes "b" ∷ []) ≡ Err 2
+second_script = refl
 
--- with fixed boundaries it is lost
-fixed_text : List ℕ
-fixed_text = codes "units lj\nboundary f f f\natom_style atomic\nread_data d.txt\npair_style lj/cut 2.5\npair_coeff 1 1 1.0 1.0\ntimestep 0.5\nfix 1 all nve\nrun 1\n"
+second_log : asked (codes "-in" ∷ codes "a" ∷ codes "-log" ∷ codes "none" ∷ codes "-l" ∷ codes "b" ∷ []) ≡ Err 4
+second_log = refl
 
-loses : serial (record { name = codes "s.in"; bytes = fixed_text } ∷ record { name = codes "d.txt"; bytes = one_atom } ∷ []) words ≡ record {
-  pieces =
-      log_text true header_line
-      ++ log_text false (codes "         0           0.00000000           0.00000000           0.00000000           0.50000000           0.00033331\n")
-      ++ log_text false (codes "ERROR: Lost 1 0 in drift at step 1\n");
-  status = RangeFault record { phase = 1; kind = 6; a = 1; b = 0 } 1;
-  pairs = 0;
-}
-unfolding one_atom fixed_text script_text sides_text two_atoms files at words serial script head here coefficients settings data_file header count sides title mass atoms_given positions_section position_row words_of is_input_name read_number read_count decimal_of decimal_units nearest_of div_rounded edge_too_small told_of pairs_of set_up with_forces force_on forces_fault terms_fault term_of pair_energy pair_virial near_image pair_term weighted_term force_along energy_at strength twelfth_power sixth_power inverse_square header_line told_from pairs_from neighbour_pairs fix_text volume_of kinetic_sum temperature kinetic_share energy_share pressure header_text line_text footer_text digits velocities_given velocity_row serial_step drifted kicked_again wrap renews fault_text
-loses = refl
+screen_on : asked (codes "-in" ∷ codes "a" ∷ codes "-screen" ∷ codes "yes" ∷ []) ≡ Err 3
+screen_on = refl

@@ -1,41 +1,41 @@
 -- How a call ends, against what it was to write.
-use Rattle.std.specs.Prelude.{◌≡◌, ℕ, Option, Result, Ok, Err, List}
+use Rattle.std.specs.Prelude.{◌≡◌, ◌<◌, ℕ, Option, Some, None, IfNone, IsTrue, Result, Ok, Err, List}
+use Rattle.meaning.specs.declared.code.Code.TheVariants.{FileTooLong}
+use Rattle.meaning.specs.Answers.{is_absence}
+use Rattle.meaning.specs.Causes.{Counts}
 use Rattle.outside.specs.declared.press.Piece.{Piece}
-use Rattle.outside.specs.Sent.{plus, SendsFront, SendsCut}
-use Rattle.fxlmp_top.specs.declared.status.Status.{Status}
-use Rattle.fxlmp_top.specs.declared.status.Status.TheVariants.{Done, ScriptRefused, RangeFault, ReadFault, WriteFault, NoMemory, Usage, NotBuilt}
-use Rattle.fxlmp_top.specs.declared.code.Code.{Code}
-use Rattle.fxlmp_top.specs.declared.code.Code.TheVariants.{EdgeTooSmall, FileTooLong, NoFile}
-use Rattle.fxlmp_top.specs.declared.fetch.Miss.{Miss}
-use Rattle.fxlmp_top.specs.declared.fetch.Miss.TheVariants as miss
-use Rattle.fxlmp_top.specs.Serial.{Fetched, Run, bytes, missing, refused, too_long}
+use Rattle.outside.specs.Sent.{plus, SendsCut, SendsFront}
+use Rattle.outside.specs.Stock.{Rose}
+use Rattle.fxlmp_top.specs.declared.asked.Asked.{Asked}
+use Rattle.fxlmp_top.specs.declared.asked.Wanted.{Wanted}
+use Rattle.fxlmp_top.specs.declared.words.Misread.{Misread}
+use Rattle.fxlmp_top.specs.declared.words.Misread.TheVariants as words
+use Rattle.fxlmp_top.specs.Serial.{Run}
+use Rattle.fxlmp_top.specs.Words.{Stand}
+use Rattle.session.specs.declared.status.Status.{Status}
+use Rattle.session.specs.declared.status.Status.TheVariants.{DiskFault, NoMemory, ReadFault, ScriptRefused, WriteFault}
 
--- a fetch has this text; it is missed exactly where there is none or one that is too long, unless a fault or want of memory came between
-abbrev pub Gets : Fetched → Result (List ℕ) Miss → Type 0
-Gets had (Ok text) = had ≡ bytes text
-Gets had (Err miss.Missing) = had ≡ missing
-Gets had (Err miss.TooLong) = had ≡ too_long
-Gets had (Err miss.ReadFault) = Unit {0}
-Gets had (Err miss.NoMemory) = Unit {0}
+-- what the words so far ask for, with what is wanted next, unless a word has no reading
+abbrev pub stand_of : Asked → Option Wanted → Option Stand
+stand_of a (Some next) = Some record { asked = a; wanted = next }
+stand_of a None = None
 
--- a call that is to write this run ends so: with its status and all its pieces, or with a front of them after a fault or without memory
-abbrev pub EndsAs : Status → Option (List Piece) → Run → Option (List Piece) → Type 0
-EndsAs ReadFault old run new = SendsFront old run.pieces new
-EndsAs NoMemory old run new = SendsFront old run.pieces new
-EndsAs WriteFault old run new = SendsCut old run.pieces new
-EndsAs status old run new = (run.status ≡ status) × (new ≡ plus old run.pieces)
+-- a word is taken as is meant; want of memory may come wherever
+abbrev pub Steps : {X : Type 0} → Option Stand → Result (Option Wanted) X → Asked → Type 0
+Steps meant (Ok next) new = meant ≡ stand_of new next
+Steps meant (Err why) new = Unit {0}
 
--- so does one whose text was missed: with the refusal of the file, or with nothing put after a fault or without memory
-abbrev pub EndsMissed : Miss → List ℕ → ℕ → Option (List Piece) → Status → Option (List Piece) → Type 0
-EndsMissed miss.Missing name line old status new = EndsAs status old (refused NoFile name line) new
-EndsMissed miss.TooLong name line old status new = EndsAs status old (refused FileTooLong name line) new
-EndsMissed miss.ReadFault name line old status new = (status ≡ ReadFault) × (new ≡ old)
-EndsMissed miss.NoMemory name line old status new = (status ≡ NoMemory) × (new ≡ old)
+-- words are read as is meant
+abbrev pub Reads : Result Asked ℕ → Result Asked Misread → Type 0
+Reads meant (Ok a) = meant ≡ Ok a
+Reads meant (Err (words.Usage place)) = meant ≡ Err place
+Reads meant (Err words.NoMemory) = Unit {0}
 
 -- the status is that of the run, unless a fault or want of memory ended the call
 abbrev pub IsSerialStatus : Status → Run → Type 0
 IsSerialStatus ReadFault run = Unit {0}
 IsSerialStatus WriteFault run = Unit {0}
+IsSerialStatus DiskFault run = Unit {0}
 IsSerialStatus NoMemory run = Unit {0}
 IsSerialStatus status run = run.status ≡ status
 
@@ -43,12 +43,14 @@ IsSerialStatus status run = run.status ≡ status
 abbrev pub SendsAll : Status → Option (List Piece) → Run → Option (List Piece) → Type 0
 SendsAll ReadFault old run new = Unit {0}
 SendsAll WriteFault old run new = Unit {0}
+SendsAll DiskFault old run new = Unit {0}
 SendsAll NoMemory old run new = Unit {0}
 SendsAll status old run new = new ≡ plus old run.pieces
 
--- after a fault or without memory they are a front of those of the run, and after a failure of the press the next one follows cut
+-- after a fault or without memory they are a prefix of those of the run, and after a failure of the press the next one follows cut
 abbrev pub SendsPart : Status → Option (List Piece) → Run → Option (List Piece) → Type 0
 SendsPart ReadFault old run new = SendsFront old run.pieces new
+SendsPart DiskFault old run new = SendsFront old run.pieces new
 SendsPart NoMemory old run new = SendsFront old run.pieces new
 SendsPart WriteFault old run new = SendsCut old run.pieces new
 SendsPart status old run new = Unit {0}
@@ -57,22 +59,24 @@ SendsPart status old run new = Unit {0}
 abbrev pub IsComplete : Status → Option (List Piece) → Run → Option (List Piece) → Type 0
 IsComplete ReadFault old run new = ⊥
 IsComplete WriteFault old run new = ⊥
+IsComplete DiskFault old run new = ⊥
 IsComplete NoMemory old run new = SendsFront old run.pieces new
 IsComplete status old run new = (run.status ≡ status) × (new ≡ plus old run.pieces)
 
--- the number of a status, with which the program exits
-abbrev pub number_of : Status → ℕ
-number_of Done = 0
-number_of (ScriptRefused code file line) = 1
-number_of (RangeFault key step) = 2
-number_of ReadFault = 3
-number_of WriteFault = 4
-number_of NoMemory = 6
-number_of (Usage place) = 7
-number_of (NotBuilt file line) = 9
+-- all of this in one relation: with the status and all pieces of the run, or with a prefix of them after a fault or without memory
+abbrev pub EndsAs : Status → Option (List Piece) → Run → Option (List Piece) → Type 0
+EndsAs ReadFault old run new = SendsFront old run.pieces new
+EndsAs DiskFault old run new = SendsFront old run.pieces new
+EndsAs NoMemory old run new = SendsFront old run.pieces new
+EndsAs WriteFault old run new = SendsCut old run.pieces new
+EndsAs status old run new = (run.status ≡ status) × (new ≡ plus old run.pieces)
 
--- the number of the code of a refusal
-abbrev pub code_number : Code → ℕ
-code_number NoFile = 19
-code_number FileTooLong = 20
-code_number EdgeTooSmall = 27
+-- a status blames a device only where its count rose. A file that a shelf missed which tells nothing is told of only where that count rose; not so the
+-- script, at line 0, where it is too long, since its limit is lower than the shelf's.
+abbrev pub HasCause : Status → Counts → Counts → Type 0
+HasCause (ScriptRefused code file line) old new =
+    IsTrue (is_absence code) → (code ≡ FileTooLong → 0 < line) → IfNone old.stock (Rose old.absences new.absences)
+HasCause ReadFault old new = Rose old.reads new.reads
+HasCause WriteFault old new = Rose old.writes new.writes
+HasCause DiskFault old new = ⊥
+HasCause _ old new = Unit {0}

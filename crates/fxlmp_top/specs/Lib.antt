@@ -1,4 +1,3 @@
 pub mod Ends
-pub mod Parts
 pub mod Serial
 pub mod Words

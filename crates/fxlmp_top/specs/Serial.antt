@@ -1,131 +1,85 @@
--- The serial meaning of a run: from the words and the files to the pieces and the status. It knows nothing of the code, and sums all pairs of atoms.
-use Rattle.std.specs.Prelude.{◌^◌, ◌&&◌, ◌==◌, true, cond, nat_le, ℕ, ◌+ℤ◌, unsigned_abs, Option, Some, None, Result, Ok, Err, List, [], ◌∷◌, ◌++◌, length, map, codes}
-use Rattle.std.specs.Fmt.{decimal}
-use Rattle.box_geo.specs.declared.atoms.Atom.{Atom}
+-- The serial meaning of a call: from the words and the files to the pieces and the status. It knows nothing of the code, and sums all pairs of atoms.
+use Rattle.std.specs.Prelude.{false, ℕ, Option, Some, None, Result, Ok, Err, List, [], ◌∷◌, ◌++◌}
 use Rattle.box_geo.specs.declared.limits.TheConstants.{MAX_SCRIPT_BYTES}
-use Rattle.box_geo.specs.declared.sim_box.Axis.{Axis}
-use Rattle.fix_list.specs.declared.fixes.Fix.TheVariants.{Nve}
-use Rattle.fix_list.specs.declared.fixes.NamedFix.{NamedFix}
-use Rattle.fix_list.specs.Fixes.{moves}
-use Rattle.log_output.specs.Log.{log_text, log_texts}
-use Rattle.nve_data.specs.Data.{Contents, contents_of}
-use Rattle.nve_run.specs.declared.plan.Plan.{Plan}
-use Rattle.nve_run.specs.Run.{End, Told, completed, failed, told_of}
-use Rattle.nve_run.specs.Work.{pairs_of}
-use Rattle.nve_script.specs.declared.script.Coefficients.{Coefficients}
-use Rattle.nve_script.specs.declared.script.Script.{Script}
-use Rattle.nve_script.specs.Script.{script_of}
+use Rattle.fxlmp_top.specs.declared.asked.Asked.{Asked}
+use Rattle.fxlmp_top.specs.declared.asked.Definition.{Definition}
+use Rattle.fxlmp_top.specs.declared.asked.LogChoice.{LogChoice}
+use Rattle.fxlmp_top.specs.declared.asked.LogChoice.TheVariants.{Default, File as LogFile, Nowhere}
+use Rattle.fxlmp_top.specs.declared.asked.ScriptName.{ScriptName}
+use Rattle.fxlmp_top.specs.Words.{asked, default_log}
+use Rattle.meaning.specs.declared.code.Code.{Code}
+use Rattle.meaning.specs.declared.output.Output.{Output}
+use Rattle.meaning.specs.declared.settings.Settings.{Settings}
+use Rattle.meaning.specs.declared.uses.NameUse.{NameUse}
+use Rattle.meaning.specs.declared.uses.UseKind.{UseKind}
+use Rattle.meaning.specs.declared.uses.UseKind.TheVariants.{Fetched, Put}
+use Rattle.meaning.specs.Play.{Played, play, refused_line}
+use Rattle.meaning.specs.Session.{begun_with}
+use Rattle.meaning.specs.Shown.{screen_name}
+use Rattle.meaning.specs.SystemFiles.{within}
 use Rattle.outside.specs.declared.files.File.{File}
 use Rattle.outside.specs.declared.press.Piece.{Piece}
-use Rattle.outside.specs.declared.shelf.TheConstants.{MAX_FETCHED}
 use Rattle.outside.specs.Stock.{content}
-use Rattle.serial_step.specs.Forces.{Field, PairNumbers}
-use Rattle.serial_step.specs.Room.{edge_too_small}
-use Rattle.serial_step.specs.Step.{Setting}
-use Rattle.fxlmp_top.specs.declared.code.Code.{Code}
-use Rattle.fxlmp_top.specs.declared.code.Code.TheVariants.{EdgeTooSmall, FileTooLong, NoFile}
-use Rattle.fxlmp_top.specs.declared.status.Status.{Status}
-use Rattle.fxlmp_top.specs.declared.status.Status.TheVariants.{Done, NotBuilt, RangeFault, ScriptRefused, Usage}
-use Rattle.fxlmp_top.specs.Words.{script_name}
+use Rattle.session.specs.declared.status.Status.{Status}
+use Rattle.session.specs.declared.status.Status.TheVariants.{Usage}
+use Rattle.session.specs.Ends.{status_of}
+use Rattle.var_table.specs.declared.styles.VarStyle.TheVariants.{Index}
+use Rattle.var_table.specs.Variables.{Named, defined}
 
--- what a run of the program writes, how it ends, and how many terms of pairs it sums
+-- what a call of the program sends, how it ends, and how many terms of pairs it sums
 pub record Run : Type 0 where
   pub pieces : List Piece
   pub status : Status
   pub pairs : ℕ
 
--- nothing is written, and the run ends so
-abbrev pub ends_at_once : Status → Run
-ends_at_once status = record { pieces = []; status = status; pairs = 0 }
+abbrev pub run_of : Played → Run
+run_of p = record { pieces = p.pieces; status = status_of p.end; pairs = p.pairs }
 
--- the line of a refusal, and the run that it ends: nothing was written before
-abbrev pub code_name : Code → List ℕ
-code_name NoFile = codes "NoFile"
-code_name FileTooLong = codes "FileTooLong"
-code_name EdgeTooSmall = codes "EdgeTooSmall"
+-- the log's file, if there is one
+abbrev pub log_of : LogChoice → Option (List ℕ)
+log_of Default = Some default_log
+log_of (LogFile name) = Some name
+log_of Nowhere = None
 
-unfoldable pub refusal_text : Code → List ℕ → ℕ → List ℕ
-refusal_text code file line = codes "ERROR: " ++ code_name code ++ codes " at " ++ file ++ codes ":" ++ decimal line ++ codes "\n"
+-- the first uses of names: the screen, the log, and the script
+abbrev pub first_use : UseKind → List ℕ → NameUse
+first_use kind name = record { name = name; kind = kind; begun = false }
 
-abbrev pub refused : Code → List ℕ → ℕ → Run
-refused code file line = record { pieces = log_text true (refusal_text code file line); status = ScriptRefused code file line; pairs = 0 }
+abbrev pub log_use : Option (List ℕ) → List NameUse
+log_use (Some name) = first_use Put name ∷ []
+log_use None = []
 
--- a fetched file: its bytes, or none, or more than may be fetched
-pub data Fetched : Type 0 where
-  bytes : List ℕ → Fetched
-  missing : Fetched
-  too_long : Fetched
+abbrev pub first_uses : Option (List ℕ) → List ℕ → List NameUse
+first_uses log script = first_use Put screen_name ∷ log_use log ++ first_use Fetched script ∷ []
 
-abbrev pub fetched : ℕ → Option (List ℕ) → Fetched
-fetched limit None = missing
-fetched limit (Some text) = cond (nat_le (length text) limit) (bytes text) too_long
+abbrev pub first_output : Asked → List ℕ → Output
+first_output a script = record { every = 0; log = log_of a.log; screen = a.screen; uses = first_uses (log_of a.log) script }
 
--- the coefficients of type 1 with itself, the only pair of types
-abbrev pub numbers_of : Coefficients → PairNumbers
-numbers_of c = record { epsilon = unsigned_abs c.epsilon; sigma = unsigned_abs c.sigma; cutoff = unsigned_abs c.cutoff }
+-- the variables of the words, defined in order as index variables
+abbrev pub defined_all : List Definition → List Named → List Named
+defined_all [] vars = vars
+defined_all (d ∷ more) vars = defined_all more (defined vars d.name (Index d.values))
 
-abbrev pub field_of : Coefficients → Field
-field_of c = record { pairs = λ i j. cond ((i == 1) && (j == 1)) (Some (numbers_of c)) None; weight = λ i j. 2 ^ 24 }
+abbrev pub first_settings : Asked → List ℕ → Settings
+first_settings a script = begun_with (first_output a script) (defined_all a.vars [])
 
--- the fixes of the run: one, if the script has it, that moves the atoms that there are
-abbrev pub ids_of : List Atom → List ℕ
-ids_of atoms = map (λ a. a.id) atoms
+-- the script is played, unless it is missing or too long, which is told at line 0
+abbrev pub played_text : List File → List ℕ → Settings → Result (List ℕ) Code → Played
+played_text files name s (Ok text) = play files name text s
+played_text files name s (Err why) = refused_line s.output name 0 why
 
-abbrev pub fixes_of : Option (List ℕ) → List ℕ → List NamedFix
-fixes_of None ids = []
-fixes_of (Some name) ids = record { name = name; fix = Nve ids } ∷ []
+abbrev pub run_script : List File → Asked → List ℕ → Run
+run_script files a name = run_of (played_text files name (first_settings a name) (within MAX_SCRIPT_BYTES (content files name)))
 
--- the setting of the steps
-abbrev pub setting_of : Script → Contents → Setting
-setting_of s c = record {
-  field = field_of s.coefficients;
-  sides = c.sides;
-  dt = s.settings.dt;
-  mass = c.mass ∷ [];
-  skin = unsigned_abs s.settings.skin;
-  cutoff = unsigned_abs s.coefficients.cutoff;
-  moves = moves (fixes_of s.settings.fix (ids_of c.atoms));
-}
+-- words that have a reading name a script
+abbrev pub run_named : List File → Asked → Option ScriptName → Run
+run_named files a (Some s) = run_script files a s.name
+run_named files a None = record { pieces = []; status = Usage 0; pairs = 0 }
 
-abbrev pub plan_of : Script → Plan
-plan_of s = record { every = s.settings.every; last = s.steps }
-
--- the run from step 0 on, unless an edge is too small
-abbrev pub status_of : End → Status
-status_of completed = Done
-status_of (failed key step) = RangeFault key step
-
-abbrev pub run_told : Told → ℕ → Run
-run_told told pairs = record { pieces = log_texts true told.texts; status = status_of told.end; pairs = pairs }
-
-abbrev pub run_in : List ℕ → Script → Contents → Option Axis → Run
-run_in name s c (Some axis) = refused EdgeTooSmall name s.run_line
-run_in name s c None = run_told (told_of (setting_of s c) (plan_of s) s.steps 0 c.atoms) (pairs_of (setting_of s c) s.steps 0 c.atoms)
-
-abbrev pub run_data : List ℕ → Script → Result Contents ℕ → Run
-run_data name s (Ok c) = run_in name s c (edge_too_small c.sides (s.coefficients.cutoff +ℤ s.settings.skin))
-run_data name s (Err line) = ends_at_once (NotBuilt s.head.input line)
-
--- the data file
-abbrev pub run_input : List ℕ → Script → Fetched → Run
-run_input name s (bytes text) = run_data name s (contents_of s.head.periodic text)
-run_input name s missing = refused NoFile name s.head.input_line
-run_input name s too_long = refused FileTooLong name s.head.input_line
-
--- the script; its form is judged before the data file is fetched
-abbrev pub run_script : List File → List ℕ → Result Script ℕ → Run
-run_script files name (Ok s) = run_input name s (fetched MAX_FETCHED (content files s.head.input))
-run_script files name (Err line) = ends_at_once (NotBuilt name line)
-
-abbrev pub run_text : List File → List ℕ → Fetched → Run
-run_text files name (bytes text) = run_script files name (script_of text)
-run_text files name missing = refused NoFile name 0
-run_text files name too_long = refused FileTooLong name 0
-
-abbrev pub run_name : List File → Result (List ℕ) ℕ → Run
-run_name files (Ok name) = run_text files name (fetched MAX_SCRIPT_BYTES (content files name))
-run_name files (Err place) = ends_at_once (Usage place)
+abbrev pub run_asked : List File → Result Asked ℕ → Run
+run_asked files (Ok a) = run_named files a a.script
+run_asked files (Err place) = record { pieces = []; status = Usage place; pairs = 0 }
 
 -- the serial meaning of the words over the files of a shelf
 unfoldable pub serial : List File → List (List ℕ) → Run
-serial files words = run_name files (script_name words)
+serial files words = run_asked files (asked words)

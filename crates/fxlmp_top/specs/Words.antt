@@ -1,17 +1,147 @@
--- The words of the command line: exactly `-in F`, with F the name of a file that can be fetched.
-use Rattle.std.specs.Prelude.{cond, ℕ, List, [], ◌∷◌, Result, Ok, Err, codes}
+-- The words of the command line, read one by one:
+--
+--   -in F (-i)             the script's file
+--   -log F or none (-l)    the log's file; log.lammps without it
+--   -screen none (-sc)     nothing goes to the screen
+--   -var NAME V .. (-v)    an index variable, with its values up to the next word that begins with `-` and a letter
+--
+-- Each but -var stands at most once, in any order, and the two files differ.
+use Rattle.std.specs.Prelude.{◌==◌, ◌+◌, ◌&&◌, ◌||◌, Bool, true, false, cond, is_some, not, ℕ, Option, Some, None, Result, Ok, Err, List, [], ◌∷◌, ◌++◌, codes}
+use Rattle.std.specs.Char.{is_ascii_alphabetic}
 use Rattle.std.specs.Str.{bytes_eq}
-use Rattle.input_text.specs.Names.{is_input_name}
+use Rattle.input_text.specs.Names.{is_file_name, is_id}
+use Rattle.meaning.specs.Uses.{is_compressed}
+use Rattle.fxlmp_top.specs.declared.asked.Asked.{Asked}
+use Rattle.fxlmp_top.specs.declared.asked.ScriptName.{ScriptName}
+use Rattle.fxlmp_top.specs.declared.asked.Definition.{Definition}
+use Rattle.fxlmp_top.specs.declared.asked.LogChoice.{LogChoice}
+use Rattle.fxlmp_top.specs.declared.asked.LogChoice.TheVariants.{Default, File, Nowhere}
+use Rattle.fxlmp_top.specs.declared.asked.Wanted.{Wanted}
+use Rattle.fxlmp_top.specs.declared.asked.Wanted.TheVariants as want
 
-abbrev pub nothing_after : List ℕ → List (List ℕ) → Result (List ℕ) ℕ
-nothing_after name [] = Ok name
-nothing_after name (word ∷ words) = Err 2
+-- the log's name where the words give none
+abbrev pub default_log : List ℕ
+default_log = codes "log.lammps"
 
-abbrev pub name_after : List (List ℕ) → Result (List ℕ) ℕ
-name_after [] = Err 1
-name_after (name ∷ words) = cond (is_input_name name) (nothing_after name words) (Err 1)
+abbrev pub nothing_asked : Asked
+nothing_asked = record { script = None; log = Default; screen = true; vars = [] }
 
--- the script's name, or the place of the first word that is wrong; the number of words where one is missing
-abbrev pub script_name : List (List ℕ) → Result (List ℕ) ℕ
-script_name [] = Err 0
-script_name (word ∷ words) = cond (bytes_eq word (codes "-in")) (name_after words) (Err 0)
+-- what the words so far ask for, and what the next one is to be; or that a word has no reading
+pub record Stand : Type 0 where
+  pub asked : Asked
+  pub wanted : Wanted
+
+-- a file's name that the words may give
+abbrev pub is_name : List ℕ → Bool
+is_name name = is_file_name name && not (is_compressed name)
+
+abbrev pub is_script : Option ScriptName → List ℕ → Bool
+is_script (Some s) name = bytes_eq s.name name
+is_script None name = false
+
+abbrev pub is_log : LogChoice → List ℕ → Bool
+is_log (File log) name = bytes_eq log name
+is_log Default name = false
+is_log Nowhere name = false
+
+abbrev pub is_chosen : LogChoice → Bool
+is_chosen Default = false
+is_chosen _ = true
+
+-- one of two spellings
+abbrev pub is_either : List ℕ → List ℕ → List ℕ → Bool
+is_either long short word = bytes_eq word long || bytes_eq word short
+
+-- it begins with `-` and a letter
+abbrev pub is_letter_next : List ℕ → Bool
+is_letter_next [] = false
+is_letter_next (c ∷ word) = is_ascii_alphabetic c
+
+abbrev pub is_flag : List ℕ → Bool
+is_flag [] = false
+is_flag (c ∷ word) = (c == 45) && is_letter_next word
+
+-- an option, unless it stands a second time
+abbrev pub unless : Bool → Asked → Wanted → Option Stand
+unless given a next = cond given None (Some record { asked = a; wanted = next })
+
+abbrev pub option_word : Asked → List ℕ → Option Stand
+option_word a word =
+    cond (is_either (codes "-in") (codes "-i") word) (unless (is_some a.script) a want.Script)
+    (cond (is_either (codes "-log") (codes "-l") word) (unless (is_chosen a.log) a want.Log)
+    (cond (is_either (codes "-screen") (codes "-sc") word) (unless (not a.screen) a want.Screen)
+    (cond (is_either (codes "-var") (codes "-v") word) (unless false a want.Variable) None)))
+
+-- the words behind options
+abbrev pub stands : Asked → Option Stand
+stands a = Some record { asked = a; wanted = want.Flag }
+
+abbrev pub script_word : Asked → ℕ → List ℕ → Option Stand
+script_word a place word = cond (is_name word && not (is_log a.log word)) (stands (record a { script = Some record { place = place; name = word } })) None
+
+abbrev pub log_word : Asked → List ℕ → Option Stand
+log_word a word =
+    cond (bytes_eq word (codes "none")) (stands (record a { log = Nowhere }))
+    (cond (is_name word && not (is_script a.script word)) (stands (record a { log = File word })) None)
+
+abbrev pub screen_word : Asked → List ℕ → Option Stand
+screen_word a word = cond (bytes_eq word (codes "none")) (stands (record a { screen = false })) None
+
+abbrev pub variable_word : Asked → List ℕ → Option Stand
+variable_word a word = cond (is_id word) (Some record { asked = a; wanted = want.Values record { name = word; values = [] } }) None
+
+abbrev pub with_variable : Asked → Definition → Asked
+with_variable a d = record a { vars = a.vars ++ d ∷ [] }
+
+abbrev pub with_value : Asked → Definition → List ℕ → Option Stand
+with_value a d word = Some record { asked = a; wanted = want.Values (record d { values = d.values ++ word ∷ [] }) }
+
+-- a variable has at least one value
+abbrev pub after_values : Asked → Definition → List (List ℕ) → List ℕ → Option Stand
+after_values a d [] word = None
+after_values a d (v ∷ values) word = option_word (with_variable a d) word
+
+abbrev pub value_word : Asked → Definition → List ℕ → Option Stand
+value_word a d word = cond (is_flag word) (after_values a d d.values word) (with_value a d word)
+
+-- a word at its place
+abbrev pub step : Asked → Wanted → ℕ → List ℕ → Option Stand
+step a want.Flag place word = option_word a word
+step a want.Script place word = script_word a place word
+step a want.Log place word = log_word a word
+step a want.Screen place word = screen_word a word
+step a want.Variable place word = variable_word a word
+step a (want.Values d) place word = value_word a d word
+
+-- where the words end: a script is named, and not by the log's name
+abbrev pub checked : Asked → ScriptName → LogChoice → Result Asked ℕ
+checked a s Default = cond (bytes_eq s.name default_log) (Err s.place) (Ok a)
+checked a s _ = Ok a
+
+abbrev pub with_script : Asked → ℕ → Option ScriptName → Result Asked ℕ
+with_script a count None = Err count
+with_script a count (Some s) = checked a s a.log
+
+abbrev pub ends : Asked → ℕ → Result Asked ℕ
+ends a count = with_script a count a.script
+
+abbrev pub ends_in_values : Asked → Definition → ℕ → List (List ℕ) → Result Asked ℕ
+ends_in_values a d count [] = Err count
+ends_in_values a d count (v ∷ values) = ends (with_variable a d) count
+
+abbrev pub end_of : Asked → Wanted → ℕ → Result Asked ℕ
+end_of a want.Flag count = ends a count
+end_of a (want.Values d) count = ends_in_values a d count d.values
+end_of a _ count = Err count
+
+-- the words from a place on: what they ask for, or the place of the first that has no reading, or the number of words where one is missing
+abbrev pub behind : ℕ → Option Stand → (Asked → Wanted → Result Asked ℕ) → Result Asked ℕ
+behind place None rest = Err place
+behind place (Some s) rest = rest s.asked s.wanted
+
+abbrev pub asked_from : ℕ → List (List ℕ) → Asked → Wanted → Result Asked ℕ
+asked_from place [] a wanted = end_of a wanted place
+asked_from place (word ∷ words) a wanted = behind place (step a wanted place word) (λ a' wanted'. asked_from (place + 1) words a' wanted')
+
+abbrev pub asked : List (List ℕ) → Result Asked ℕ
+asked words = asked_from 0 words nothing_asked want.Flag

@@ -2,15 +2,12 @@
 //! shelf to the pieces of the serial meaning and its status.
 #![tactic(auto)]
 
-mod code;
-mod fetch;
-mod parts;
-mod refuse;
-mod run;
-mod status;
+mod asked;
+mod start;
 mod top;
 mod words;
 
-pub use code::Code;
-pub use status::Status;
+pub use asked::{Asked, Definition, LogChoice, ScriptName, Wanted};
+pub use meaning::Code;
+pub use session::Status;
 pub use top::{run_surely, run_words};

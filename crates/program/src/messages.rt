@@ -1,10 +1,11 @@
 //! The texts of the program: those that `--help` and `--version` print, and those on standard error.
-ghost use Rattle.std.specs.Prelude.{OnOk};
-ghost use Rattle.std.specs.Io.KnownBytes.{Appends};
-ghost use Rattle.program.specs.Request.{help_text};
+ghost use Rattle.std.specs.Prelude.{◌≡◌, IfOk};
+ghost use Rattle.program.specs.Request.{help_text, text_for};
 
-use fx_num::Text;
+use crate::request::Request;
+use fx_num::{NoMemory, Text};
 use fxlmp_top::Status;
+use std::alloc::Global;
 use std::io::Write;
 use std::{fmt, io, str};
 
@@ -13,7 +14,7 @@ pub(crate) const VERSION: &str = "fxlmp 0.1.0\n";
 
 /// How the program is called.
 const USAGE: &str = "
-usage: fxlmp -in FILE    run the script FILE
+usage: fxlmp -in FILE [-log FILE] [-screen none] [-var NAME VALUE ..]
        fxlmp --help      print how to use the program
        fxlmp --version   print its name and version
 ";
@@ -24,38 +25,42 @@ fxlmp runs LAMMPS input scripts of molecular dynamics in whole-number
 arithmetic: every length, velocity, force and energy is a whole multiple of
 2^-24. Units are those of `units lj`.
 
-  FILE   the script, by its name or by a path from the current folder: 1 to 255
-         printable ASCII characters without blanks, quotes, * and %. It is
-         neither log.lammps nor a compressed file (.gz, .bz2, .xz, .zst, .lz4).
+  -in FILE, -i              the script
+  -log FILE, -l             the file of the log, in place of log.lammps
+  -log none                 no file of the log
+  -screen none, -sc         nothing on the standard output
+  -var NAME VALUE .., -v    an index variable; its values go on up to the next
+                            word that begins with - and a letter
 
-The log goes to log.lammps in the current folder, which is written anew, and
-to the standard output.
+The words stand in any order, each but -var at most once. FILE is a name, or a
+path from the current folder: 1 to 255 printable ASCII characters but blanks,
+quotes, * and %, and no compressed file (.gz, .bz2, .xz, .zst, .lz4). The script
+and the log have different names. NAME is 1 to 64 letters, digits and _.
 
-This version runs scripts of these lines in this order, and no others. A line in
-brackets may be left out:
+The log goes to its file, which is written anew, and to the standard output.
 
-  units lj
-  [boundary X Y Z]
-  atom_style atomic
-  read_data DATA
-  pair_style lj/cut CUTOFF
-  pair_coeff 1 1 EPSILON SIGMA
-  [neighbor SKIN bin]
-  [timestep DT]
-  [thermo EVERY]
-  [fix ID all nve]
-  run STEPS
+A script has at most 1048576 bytes. Its lines run one by one. A `&` at the end of
+a line joins the next one to it, a `#` begins a comment, and a text with blanks
+stands in quotes: single, double or triple ones. In words without quotes $x and
+${name} stand for the value of a variable. This version runs these commands:
 
-X, Y and Z are each p, where the box is periodic along the axis, or f, where its
-sides are fixed: p without the line. CUTOFF is above 0 up to 16, EPSILON from 0
-to 256, SIGMA above 0 up to 8 and at most four cutoffs. SKIN is from 0 to 4, and
-0.3 without the line; DT from 0 to 1, and 0.005 without the line. The log has a
-line for step 0, for each multiple of EVERY, unless that is 0 or left out, and
-for the last step. ID is 1 to 64 letters, digits and _; without the line no atom
-moves. STEPS is from 0 to 274877906944. Each edge of the box along a periodic
-axis is at least twice the sum of CUTOFF and SKIN.
+  units lj                          timestep DT
+  dimension 2 | 3                   reset_timestep N
+  boundary X Y Z                    run N [upto]
+  atom_style atomic                 thermo N
+  processors X Y Z                  print TEXT
+  read_data FILE                    log FILE | none
+  mass TYPES MASS                   variable NAME index VALUE ..
+  pair_style lj/cut CUTOFF          variable NAME loop N [M]
+  pair_coeff TYPES TYPES            variable NAME string TEXT
+    EPSILON SIGMA [CUTOFF]          variable NAME delete
+  neighbor SKIN bin | nsq | multi   clear
+  comm_modify cutoff CUTOFF         quit
+  fix ID all nve                    newton, atom_modify, echo,
+  unfix ID                            neigh_modify (no effect)
 
-DATA is the data file, by its name or its path as above, of these lines:
+All other commands of the language are read, and end the run with status 9. The
+data file of read_data has these lines, with one space between words:
 
   any text
 
@@ -78,43 +83,43 @@ DATA is the data file, by its name or its path as above, of these lines:
   ID VX VY VZ      one such line for each atom
 
 The velocities may be left out, with the two lines before them, and are then 0.
-Where N is 0, the file ends with the mass. N is at most 1048576. Bounds are from
--1024 to 1024, and an edge is from 2^-6 to 1024. MASS is from 2^-10 to 64. An ID
-is from 1 to 16777215, each once, in any order. An atom is inside the box, and no
-component of its velocity is beyond 256.
-
-In both files one space parts the words, and each line ends with a line feed, the
-last one too. There are no comments, and no empty lines but those shown.
+Where N is 0, the file ends with the mass. Each line ends with a line feed, the
+last one too, and there are no comments.
 
 exit status:
-  0   the script was run to its end
-  1   the script was refused, since a file is missing or too long or the box is
-      too small: the last line of the log says why, and at which line
+  0   the script was run to its end, or to quit
+  1   a line of the script was refused: the last line of the log says why, and
+      which
   2   a quantity left its range, such as the force of two atoms that are too
       close: the last line of the log says which
   3   a file could not be read
   4   a file or the standard output could not be written
   6   out of memory
   7   the command line is wrong
-  9   the script or its data file is in a form that this version does not run:
-      standard error says which of them, and at which line
+  9   a command, or the form of a data file, is for a later version: standard
+      error says at which line of the script
 ";
 
-/// Prints the text on how to use the program.
-pub(crate) fn print_help<W: Write>(to: &mut W) -> io::Result<()>
-    ensures { OnOk result (Appends (W.contents to.old) (W.contents to.new) help_text) }
+/// The text on how to use the program.
+#[tactic(auto, unfolding(crate::specs::Request::help_text))]
+fn help_text(alloc: Global) -> Result<Text, NoMemory>
+    ensures { IfOk result (λ text. text ≡ help_text) }
 {
-    to.write_all(VERSION.as_bytes())?;
-    to.write_all(USAGE.as_bytes())?;
-    to.write_all(DETAILS.as_bytes())?;
-    Ok(())
+    let mut text = Text::from_bytes(alloc, VERSION.as_bytes())?;
+    text.push(USAGE.as_bytes())?;
+    text.push(DETAILS.as_bytes())?;
+    Ok(text)
 }
 
-/// Prints the program's name and version.
-pub(crate) fn print_version<W: Write>(to: &mut W) -> io::Result<()>
-    ensures { OnOk result (Appends (W.contents to.old) (W.contents to.new) VERSION.now) }
+/// The text that is asked for in place of a run; none for a run.
+pub(crate) fn text_for(alloc: Global, request: Request) -> Result<Text, NoMemory>
+    ensures { IfOk result (λ text. text ≡ text_for request) }
 {
-    to.write_all(VERSION.as_bytes())
+    match request {
+        Request::Help => help_text(alloc),
+        Request::Version => Text::from_bytes(alloc, VERSION.as_bytes()),
+        Request::Run => Ok(Text::new(alloc)),
+    }
 }
 
 /// Says on standard error what a status means, unless the run's own output says it. `words` are those
@@ -132,33 +137,34 @@ pub(crate) fn explain(
         }
         Status::NotBuilt { file, line } => {
             let line = *line;
-            return writeln!(to, "fxlmp: {}", UnknownForm { file, line });
+            return writeln!(to, "fxlmp: {}", LaterCommand { file, line });
         }
         Status::ReadFault => "a file cannot be read",
         Status::WriteFault => "a file or the standard output cannot be written",
+        Status::DiskFault => "a restart file cannot be kept",
         Status::NoMemory => "out of memory",
     };
     writeln!(to, "fxlmp: {cause}")
 }
 
-/// A file in a form that is not run, and the first line that no file of the form has there.
+/// A line of a script with a command that is for a later version, or the form of its data file is.
 #[derive(Clone, Copy)]
-struct UnknownForm<'a> {
-    /// The name of the file.
+struct LaterCommand<'a> {
+    /// The name of the script.
     file: &'a Text,
     /// The line.
     line: u32,
 }
 
-impl fmt::Display for UnknownForm<'_> {
+impl fmt::Display for LaterCommand<'_> {
     fn fmt<W: fmt::Write>(&self, f: &mut fmt::Formatter<W>) -> fmt::Result {
         let line = self.line;
         match str::from_utf8(self.file.as_bytes()) {
             Ok(file) => write!(
                 f,
-                "{file}:{line}: this version does not run such a line here (fxlmp --help shows the forms)"
+                "{file}:{line}: this command, or the form of its data file, is for a later version (fxlmp --help shows what runs)"
             ),
-            Err(_) => write!(f, "a file is not run at line {line}"),
+            Err(_) => write!(f, "the command at line {line} is for a later version"),
         }
     }
 }
@@ -180,12 +186,20 @@ impl WrongWord<'_> {
         str::from_utf8(self.words?.get(place)?.as_bytes()).ok()
     }
 
+    /// The word before the place, if there is one and it is text.
+    fn option(&self) -> Option<&str> {
+        let before = usize::try_from(self.place.checked_sub(1)?).ok()?;
+        str::from_utf8(self.words?.get(before)?.as_bytes()).ok()
+    }
+
     /// Why a word at the place is wrong.
     fn reason(&self) -> &'static str {
-        match self.place {
-            0 => "expected -in",
-            1 => "not the name of a script that can be run",
-            _ => "nothing follows the script's name",
+        match self.option() {
+            Some("-in" | "-i") => "not the name of a script that can be run",
+            Some("-log" | "-l") => "not the name of a log",
+            Some("-screen" | "-sc") => "expected none",
+            Some("-var" | "-v") => "not the name of a variable",
+            _ => "no option that may stand here",
         }
     }
 }

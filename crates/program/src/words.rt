@@ -1,13 +1,15 @@
 //! The words of the command line, as the system gives them.
-ghost use Rattle.std.specs.Prelude.{◌≡◌, IfOk, drop, map, string_bytes};
-ghost use Rattle.fxlmp_top.specs.Ends.{number_of};
+ghost use Rattle.std.specs.Prelude.{◌≡◌, ◌≢◌, ◌↔◌, IfOk, IsOk, IsErrAnd, IsErrOf, drop, map, string_bytes};
+ghost use Rattle.std.specs.IoError.{error_kind};
+ghost use Rattle.std.specs.Vec.Iter.{into_iter_items};
+ghost use Rattle.session.specs.Ends.{number_of};
 ghost use Rattle.program.specs.Request.{unread_number};
 
 use fx_num::{NoMemory, Seq, Text};
 use fxlmp_top::Status;
 use std::alloc::Global;
-use std::env;
-use std::io::ErrorKind;
+use std::env::{self, Args};
+use std::io::{self, ErrorKind};
 use std::rt::Env;
 
 /// Why the words of the command line could not be read.
@@ -31,32 +33,54 @@ impl Unread {
     }
 }
 
-/// The words of the command line, without the program's name.
+/// The words of the command line, without the program's name. No contract can say which words the
+/// system gives.
 ///
 /// # Errors
 ///
 /// `NotText`, `NoMemory`.
 pub fn read_words(rt: &(impl Env + AllocGlobal)) -> Result<Seq<Text>, Unread> {
-    match env::args(rt) {
-        Ok(all) => match all.collect::<Vec<_>>(rt.alloc()) {
-            Ok(all) => words_of(rt.alloc(), &all),
-            Err(_) => Err(Unread::NoMemory),
+    words_given(rt.alloc(), env::args(rt))
+}
+
+/// The words of what the system gave: all but the first, which is the program's name.
+///
+/// # Errors
+///
+/// `NotText` exactly where the system gave no words, for another reason than want of memory: the one
+/// such reason is a word that is not UTF-8. `NoMemory`.
+fn words_given(alloc: Global, given: io::Result<Args>) -> Result<Seq<Text>, Unread>
+    ensures words { IfOk given (λ all. IfOk result (λ words. words ≡ map (λ word. string_bytes word) (drop 1 (into_iter_items all)))) }
+    ensures not_text { IsErrOf result Unread.NotText ↔ IsErrAnd given (λ e. error_kind e ≢ ErrorKind.OutOfMemory) }
+    ensures has_words { IsOk result → IsOk given }
+{
+    match given {
+        Ok(all) => match words_listed(alloc, all) {
+            Ok(words) => Ok(words),
+            Err(NoMemory) => Err(Unread::NoMemory),
         },
         Err(error) if error.kind() == ErrorKind::OutOfMemory => Err(Unread::NoMemory),
         Err(_) => Err(Unread::NotText),
     }
 }
 
-/// The words of all that the system gives: the first is the program's name.
-fn words_of(alloc: Global, all: &[String]) -> Result<Seq<Text>, Unread>
+/// The words of all that the system lists: the first is the program's name.
+fn words_listed(alloc: Global, all: Args) -> Result<Seq<Text>, NoMemory>
+    ensures { IfOk result (λ words. words ≡ map (λ word. string_bytes word) (drop 1 (into_iter_items all))) }
+{
+    match all.collect::<Vec<_>>(alloc) {
+        Ok(all) => words_of(alloc, &all),
+        Err(_) => Err(NoMemory),
+    }
+}
+
+/// The words of a list whose first is the program's name.
+fn words_of(alloc: Global, all: &[String]) -> Result<Seq<Text>, NoMemory>
     ensures { IfOk result (λ words. words ≡ map (λ word. string_bytes word) (drop 1 all.now)) }
 {
     match all {
         [] => Ok(Seq::new(alloc)),
-        [_, words @ ..] => match texts_of(alloc, words) {
-            Ok(words) => Ok(words),
-            Err(NoMemory) => Err(Unread::NoMemory),
-        },
+        [_, words @ ..] => texts_of(alloc, words),
     }
 }
 

@@ -1,9 +1,10 @@
-use Rattle.std.proofs.Common.{◌≡◌, ◌∙◌, ℕ, List, Result, Ok, Err, arith, refl, sym, ap}
-use Rattle.fxlmp_top.specs.declared.status.Status.{Status}
-use Rattle.fxlmp_top.specs.declared.status.Status.TheVariants.{Done, ScriptRefused, RangeFault, ReadFault, WriteFault, NoMemory, Usage, NotBuilt}
-use Rattle.fxlmp_top.specs.Ends.{number_of}
-use Rattle.fxlmp_top.specs.Words.{script_name}
+use Rattle.std.proofs.Common.{◌≡◌, ◌⊎◌, inl, inr, ◌∙◌, ℕ, Result, Ok, Err, arith, refl, sym, ap}
+use Rattle.fxlmp_top.specs.declared.asked.Asked.{Asked}
+use Rattle.fxlmp_top.specs.Words.{asked}
 use Rattle.program.specs.Request.{request_of}
+use Rattle.session.specs.declared.status.Status.{Status}
+use Rattle.session.specs.declared.status.Status.TheVariants.{DiskFault, Done, NoMemory, NotBuilt, RangeFault, ReadFault, ScriptRefused, Usage, WriteFault}
+use Rattle.session.specs.Ends.{number_of}
 use Rattle.program.proofs.run.run_program.Goals as goal
 
 -- two equal reads have the same words
@@ -17,21 +18,26 @@ only_usage (ScriptRefused code file line) is no_usage = omega arith
 only_usage (RangeFault key step) is no_usage = omega arith
 only_usage ReadFault is no_usage = omega arith
 only_usage WriteFault is no_usage = omega arith
+only_usage DiskFault is no_usage = omega arith
 only_usage NoMemory is no_usage = omega arith
 only_usage (Usage place) is no_usage = no_usage place refl
 only_usage (NotBuilt file line) is no_usage = omega arith
 
-not_both : (r : Result (List ℕ) ℕ) (name : List ℕ) (place : ℕ) → r ≡ Ok name → r ≡ Err place → ⊥
-not_both r name place good bad = cc
+not_both : (r : Result Asked ℕ) (a : Asked) (place : ℕ) → r ≡ Ok a → r ≡ Err place → ⊥
+not_both r a place good bad = cc
+
+-- the number of a wrong command line, unless memory was wanting
+misread_number : (s : Status) (place number : ℕ) → number ≡ number_of s → (s ≡ Usage place) ⊎ (s ≡ NoMemory) → (number ≡ 7) ⊎ (number ≡ 6)
+misread_number s place number is (inl usage) = inl (is ∙ ap number_of usage)
+misread_number s place number is (inr wanting) = inr (is ∙ ap number_of wanting)
 
 pub returns-in-Ok-clause-usage : goal.returns-in-Ok-clause-usage
 returns-in-Ok-clause-usage g c = λ words place is run bad.
     let same : c.as_slice.result.now ≡ words = c.as_slice.ensures ∙ same_words c.args.read c.in-Ok.words words c.in-Ok.is is in
-    let status : c.answer-status.result ≡ Usage place = (c.answer-status.ensures.usage (ap request_of same ∙ run) place).1 (ap script_name same ∙ bad) in
-    c.finish.ensures ∙ ap number_of status
+    misread_number c.answer-status.result place _ c.finish.ensures (c.answer-status.ensures.misread (ap request_of same ∙ run) place (ap asked same ∙ bad))
 
 pub returns-in-Ok-clause-right : goal.returns-in-Ok-clause-right
-returns-in-Ok-clause-right g c = λ words name is run good seven.
+returns-in-Ok-clause-right g c = λ words a is run good seven.
     let same : c.as_slice.result.now ≡ words = c.as_slice.ensures ∙ same_words c.args.read c.in-Ok.words words c.in-Ok.is is in
     only_usage c.answer-status.result (sym c.finish.ensures ∙ seven)
-    (λ place e. not_both (script_name words) name place good (ap script_name (sym same) ∙ (c.answer-status.ensures.usage (ap request_of same ∙ run) place).0 e))
+    (λ place e. not_both (asked words) a place good (ap asked (sym same) ∙ c.answer-status.ensures.usage (ap request_of same ∙ run) place e))

@@ -171,3 +171,53 @@ fn two_pieces_are_worked_on_at_once(rt: HostRuntime) -> Result<(), Fail> {
     assert_eq!(rt; passed(&rt, rt.alloc(), 1, 10)?, (1, 1));
     Ok(())
 }
+
+// Counts how often each piece is let pass.
+#[derive(Drop)]
+struct Turnstile {
+    passes: Vec<AtomicU64>,
+}
+
+impl Gate for Turnstile {
+    fn pass(&self, piece: u32) {
+        if let Some(count) = self.passes.get(piece as usize) {
+            count.fetch_add(1, Ordering::SeqCst);
+        }
+    }
+}
+
+// How many pieces passed once, and how many passed not at all or again, in a phase of so many pieces.
+fn passes<T: Threads + Sync>(
+    rt: &T,
+    alloc: Global,
+    pieces: u32,
+    workers: u32,
+) -> Result<(u64, u64), NoMemory>
+    requires pieces { pieces ≤ MAX_PIECES }
+    requires workers { (0 < workers) × (workers ≤ SHARES) }
+{
+    let mut passes = Vec::new(alloc);
+    for _ in 0..pieces {
+        passes.push(AtomicU64::new(0))?;
+    }
+    let gate = Turnstile { passes };
+    phase(rt, alloc, pieces, workers, &gate)?;
+    let (mut once, mut others) = (0u64, 0u64);
+    for count in &gate.passes {
+        if count.load(Ordering::SeqCst) == 1 {
+            once = once.wrapping_add(1);
+        } else {
+            others = others.wrapping_add(1);
+        }
+    }
+    Ok((once, others))
+}
+
+#[test]
+fn each_piece_passes_the_gate_once(rt: HostRuntime) -> Result<(), Fail> {
+    for workers in [1, 2, 4, 64u32] {
+        assert!(rt; 0 < workers && workers <= 64);
+        assert_eq!(rt; passes(&rt, rt.alloc(), 512, workers)?, (512, 0));
+    }
+    Ok(())
+}

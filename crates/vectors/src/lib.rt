@@ -1,6 +1,6 @@
 //! Whole runs of the program over objects in memory, against logs that were worked out by hand.
 //!
-//! The crate holds tests alone: of the logs of runs, of command lines and files that are refused, and
+//! The crate holds tests alone: of the logs of runs, of scripts, of command lines and files that are refused, and
 //! of shelves and presses that fail. They show that calls succeed, and that the definitions that the
 //! program is proved against say what was meant.
 #![tactic(auto)]
@@ -13,6 +13,8 @@ mod logs;
 mod programs;
 #[cfg(test)]
 mod refusals;
+#[cfg(test)]
+mod scripts;
 #[cfg(test)]
 mod setting;
 #[cfg(test)]

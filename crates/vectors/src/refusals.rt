@@ -35,14 +35,23 @@ fn check_usage(rt: &(impl Abort + AllocGlobal), words: &[&str], place: u64) -> R
 
 #[test]
 fn a_wrong_command_line_is_told_by_its_place(rt: HostRuntime) -> Result<(), Fail> {
-    let rows: [(&[&str], u64); 7] = [
+    let rows: [(&[&str], u64); 16] = [
         (&[], 0),
         (&["-in"], 1),
         (&["-in", SCRIPT_NAME, "more"], 2),
-        (&["-i", SCRIPT_NAME], 0),
         (&["-in", "in.two.gz"], 1),
         (&["-in", "log.lammps"], 1),
         (&["-in", ""], 1),
+        (&["-log", SCRIPT_NAME, "-in", SCRIPT_NAME], 3),
+        (&["-in", SCRIPT_NAME, "-l", SCRIPT_NAME], 3),
+        (&["-in", SCRIPT_NAME, "-log"], 3),
+        (&["-in", SCRIPT_NAME, "-screen", "all"], 3),
+        (&["-in", SCRIPT_NAME, "-i", SCRIPT_NAME], 2),
+        (&["-var", "v", "-in", SCRIPT_NAME], 2),
+        (&["-in", SCRIPT_NAME, "-v", "v"], 4),
+        (&["-var", "a-b", "1", "-in", SCRIPT_NAME], 1),
+        (&["-log", "none"], 2),
+        (&["-grid", "1", "1", "1", "-in", SCRIPT_NAME], 0),
     ];
     for (words, place) in rows {
         check_usage(&rt, words, place)?;
@@ -118,83 +127,20 @@ fn a_box_without_room_is_told_in_the_log(rt: HostRuntime) -> Result<(), Fail> {
     check_refused(&rt, WORDS, &files, Code::EdgeTooSmall, SCRIPT_NAME, 6)
 }
 
-/// Asserts that the script over this data file is answered as not built at this line of this file, and
-/// that nothing is sent.
-fn check_not_built(
-    rt: &(impl Abort + AllocGlobal),
-    script: &str,
-    data: &str,
-    (name, line): (&str, u32),
-    case: &str,
-) -> Result<(), Fail> {
-    let files = [(SCRIPT_NAME, script), (DATA_NAME, data)];
-    let (status, press) = run_over_files(rt, WORDS, &files)?;
-    assert_eq!(rt; status.number(), 9, "{case}");
-    match &status {
-        Status::NotBuilt { file, line: at } => {
-            assert_eq!(rt; file.as_bytes(), name.as_bytes(), "{case}");
-            assert_eq!(rt; *at, line, "{case}");
-        }
-        _ => panic!(rt; "{case}: another status"),
-    }
-    assert_eq!(rt; press.pieces().len(), 0, "{case}");
-    Ok(())
-}
-
-#[test]
-fn a_script_in_another_form_is_not_built(rt: HostRuntime) -> Result<(), Fail> {
-    let data = data_file(rt.alloc(), "10", AT_TWO)?;
-    let rows = [
-        (
-            "a second space",
-            "units lj\natom_style atomic\nread_data data.two\npair_style lj/cut  2.5\npair_coeff 1 1 1.0 1.0\nrun 0\n",
-            4,
-        ),
-        (
-            "an optional line at another place",
-            "units lj\natom_style atomic\nboundary p p p\nread_data data.two\npair_style lj/cut 2.5\npair_coeff 1 1 1.0 1.0\nrun 0\n",
-            3,
-        ),
-        (
-            "no last line",
-            "units lj\natom_style atomic\nread_data data.two\npair_style lj/cut 2.5\npair_coeff 1 1 1.0 1.0\n",
-            6,
-        ),
-        (
-            "a line behind the last",
-            "units lj\natom_style atomic\nread_data data.two\npair_style lj/cut 2.5\npair_coeff 1 1 1.0 1.0\nrun 0\nrun 0\n",
-            7,
-        ),
-        ("no line at all", "", 1),
-    ];
-    for (case, script, line) in rows {
-        check_not_built(&rt, script, data.as_str(), (SCRIPT_NAME, line), case)?;
-    }
-    Ok(())
-}
-
 #[test]
 fn a_data_file_in_another_form_is_not_built(rt: HostRuntime) -> Result<(), Fail> {
     let rows = [
-        ("no last line", "1 1 4 5 5\n", 16),
-        ("no last line feed", "1 1 4 5 5\n2 1 6 5 5", 16),
-        ("an atom outside the box", "1 1 4 5 5\n2 1 10 5 5\n", 16),
-        ("an id twice", "1 1 4 5 5\n1 1 6 5 5\n", 16),
-        ("a line too many", "1 1 4 5 5\n2 1 6 5 5\n3 1 8 5 5\n", 17),
+        ("no last line", "1 1 4 5 5\n"),
+        ("no last line feed", "1 1 4 5 5\n2 1 6 5 5"),
+        ("an atom outside the box", "1 1 4 5 5\n2 1 10 5 5\n"),
+        ("an id twice", "1 1 4 5 5\n1 1 6 5 5\n"),
+        ("a line too many", "1 1 4 5 5\n2 1 6 5 5\n3 1 8 5 5\n"),
     ];
-    for (case, atoms, line) in rows {
+    for (case, atoms) in rows {
         let data = data_file(rt.alloc(), "10", atoms)?;
-        check_not_built(&rt, SCRIPT, data.as_str(), (DATA_NAME, line), case)?;
+        let status = check_log(&rt, SCRIPT, data.as_str(), &[], case)?;
+        check_later(&rt, &status, 3, case);
     }
-    Ok(())
-}
-
-#[test]
-fn a_script_is_judged_before_its_data_file_is_fetched(rt: HostRuntime) -> Result<(), Fail> {
-    let script = "units lj\natom_style atomic\nread_data data.two\nrun 0\n";
-    let (status, press) = run_over_files(&rt, WORDS, &[(SCRIPT_NAME, script)])?;
-    assert_eq!(rt; status.number(), 9);
-    assert_eq!(rt; press.pieces().len(), 0);
     Ok(())
 }
 

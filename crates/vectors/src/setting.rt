@@ -2,7 +2,7 @@
 ghost use Rattle.std.specs.Prelude.{◌≡◌, ◌<◌};
 
 use fx_num::{NoMemory, Seq, Steps, Text};
-use fxlmp_top::{Status, run_surely, run_words};
+use fxlmp_top::{Code, Status, run_surely, run_words};
 use outside::{File, Files, Piece, Press, Shelf, SurePress, SureShelf};
 use std::alloc::Global;
 use std::marker::Brand;
@@ -196,5 +196,49 @@ pub(crate) fn check_pieces(
         assert_eq!(rt; piece.name.as_bytes(), *name, "{case}");
         assert_eq!(rt; piece.fresh, *fresh, "{case}");
         assert_eq!(rt; piece.bytes.as_bytes(), *bytes, "{case}");
+    }
+}
+
+/// Asserts that the script over this data file writes a log of these texts. Gives the status.
+pub(crate) fn check_log(
+    rt: &(impl Abort + AllocGlobal),
+    script: &str,
+    data: &str,
+    texts: &[&[u8]],
+    case: &str,
+) -> Result<Status, Fail> {
+    let files = [(SCRIPT_NAME, script), (DATA_NAME, data)];
+    let (status, press) = run_over_files(rt, WORDS, &files)?;
+    let want = log_of(rt.alloc(), texts)?;
+    check_pieces(rt, press.pieces(), &want, case);
+    Ok(status)
+}
+
+/// Asserts that a line of the script is refused with this code.
+pub(crate) fn check_code(rt: &impl Abort, status: &Status, code: Code, line: u32, case: &str) {
+    assert_eq!(rt; status.number(), 1, "{case}");
+    match status {
+        Status::ScriptRefused {
+            code: told,
+            file,
+            line: at,
+        } => {
+            assert_eq!(rt; *told, code, "{case}");
+            assert_eq!(rt; file.as_bytes(), SCRIPT_NAME.as_bytes(), "{case}");
+            assert_eq!(rt; *at, line, "{case}");
+        }
+        _ => panic!(rt; "{case}: another status"),
+    }
+}
+
+/// Asserts that a line of the script is answered as not built.
+pub(crate) fn check_later(rt: &impl Abort, status: &Status, line: u32, case: &str) {
+    assert_eq!(rt; status.number(), 9, "{case}");
+    match status {
+        Status::NotBuilt { file, line: at } => {
+            assert_eq!(rt; file.as_bytes(), SCRIPT_NAME.as_bytes(), "{case}");
+            assert_eq!(rt; *at, line, "{case}");
+        }
+        _ => panic!(rt; "{case}: another status"),
     }
 }

@@ -15,21 +15,6 @@ const LINE_0: &[u8] =
 const LINE_1: &[u8] =
     b"         1           0.00000000           0.00000000           0.00000000           0.50000000           0.00033331\n";
 
-/// Asserts that the script over this data file writes a log of these texts. Gives the status.
-fn check_log(
-    rt: &(impl Abort + AllocGlobal),
-    script: &str,
-    data: &str,
-    texts: &[&[u8]],
-    case: &str,
-) -> Result<Status, Fail> {
-    let files = [(SCRIPT_NAME, script), (DATA_NAME, data)];
-    let (status, press) = run_over_files(rt, WORDS, &files)?;
-    let want = log_of(rt.alloc(), texts)?;
-    check_pieces(rt, press.pieces(), &want, case);
-    Ok(status)
-}
-
 #[test]
 fn an_atom_wraps_and_the_references_are_renewed(rt: HostRuntime) -> Result<(), Fail> {
     let script = step_script(rt.alloc(), "", HALF_STEP)?;

@@ -311,11 +311,11 @@ fn has_term_by_halves<L: Ledger>(
     let mut steps = Steps::<L>::new(blank);
     let whole = numbers_of(table.term(1, 1, d, weight, &mut steps));
     assert_eq!(rt; whole, want, "at {d:?} with {weight}");
-    let Some(right) = table.guess(1, 1, d) else {
+    let Some(right) = table.guess(1, 1, d, &mut steps) else {
         assert_eq!(rt; want, Ok(None), "no guess at {d:?}");
         return;
     };
-    let elsewhere = table.guess(1, 1, [0, 0, 0]).unwrap_or(right);
+    let elsewhere = table.guess(1, 1, [0, 0, 0], &mut steps).unwrap_or(right);
     let less = with_strength(right, right.strength / 2);
     let one_less = with_strength(right, right.strength.saturating_sub(1));
     let lesser = one_off(right).unwrap_or(right);
@@ -383,7 +383,12 @@ fn few_guesses_are_wrong(rt: HostRuntime) -> Result<(), Fail> {
         let mut table = PairTable::new(rt.alloc(), 1, cut)?;
         table.set(1, 1, ONE, sigma, cut);
         table.finish()?;
-        let (guesses, wrong) = wrong_guesses(&table, sigma.unsigned_abs(), wide);
+        let (guesses, wrong) = wrong_guesses::<Brand>(
+            &table,
+            sigma.unsigned_abs(),
+            wide,
+            Blank::new(1),
+        );
         assert_eq!(rt; guesses, pairs, "pairs up to {cut}");
         assert!(rt; wrong <= 1, "{wrong} wrong guesses up to {cut}");
     }
@@ -392,10 +397,14 @@ fn few_guesses_are_wrong(rt: HostRuntime) -> Result<(), Fail> {
 
 /// Of a fixed list of displacements within a cube: how many have a guess, and how many of these are wrong, so that a
 /// division is made. The cube goes from -2 to 2 along each axis, or from -8 to 8.
-fn wrong_guesses(table: &PairTable, sigma: u64, wide: bool) -> (u64, u64)
+fn wrong_guesses<L: Ledger>(table: &PairTable, sigma: u64, wide: bool, blank: Blank) -> (u64, u64)
+    requires name { blank.name ≡ L.name }
+    requires parts { blank.parts ≡ L.parts }
+    requires some { 0 < blank.parts }
     requires finished { IsFinished table.now }
     requires one { kinds_of table.now ≡ 1 }
 {
+    let mut steps = Steps::<L>::new(blank);
     let (mut guesses, mut wrong) = (0u64, 0u64);
     let mut state = 1;
     for _ in 0..20_000u16 {
@@ -409,7 +418,7 @@ fn wrong_guesses(table: &PairTable, sigma: u64, wide: bool) -> (u64, u64)
         if r2 < sigma2 / 100 * 81 {
             continue;
         }
-        if let Some(guess) = table.guess(1, 1, [x, y, z]) {
+        if let Some(guess) = table.guess(1, 1, [x, y, z], &mut steps) {
             guesses = guesses.wrapping_add(1);
             if !is_right(sigma2, r2, guess) {
                 wrong = wrong.wrapping_add(1);

@@ -1,7 +1,7 @@
 use Rattle.std.proofs.Common.{◌≡◌, length}
 use Rattle.std.specs.List.{All}
 use Rattle.cell_bins.specs.Near.{IsSmall}
-use Rattle.part_tests.proofs.neighbours.sites_of.Given as goal
+use Rattle.list_tests.proofs.neighbours.sites_of.Given as goal
 
 abbrev pub invariant-loop-i : goal.invariant-loop-i
 invariant-loop-i l = record {

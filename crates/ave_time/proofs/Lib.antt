@@ -1,0 +1,3 @@
+pub mod SampleLemmas
+pub mod SumLemmas
+pub mod WindowLemmas

@@ -1,0 +1,3 @@
+pub mod DoesLemmas
+pub mod Moments
+pub mod Pool

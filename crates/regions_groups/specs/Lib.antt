@@ -1,0 +1,4 @@
+pub mod Groups
+pub mod Ids
+pub mod Kept
+pub mod Regions

@@ -1,0 +1,4 @@
+pub mod Change
+pub mod Draw
+pub mod Group
+pub mod Make

@@ -1,15 +1,16 @@
 -- The numbers of a command that was read keep to their limits: what each reader gives is between its bounds, and so is what is made of it.
 use Rattle.std.proofs.Common.{◌≡◌, ◌≤◌, ◌⊎◌, Bool, true, false, cond, ℕ, ℤ, pos, Option, Some, None, Result, Ok, Err, List, [], ◌∷◌, drop, refl, arith}
-use Rattle.std.specs.Prelude.{IfOk, option_and_then}
+use Rattle.std.specs.Prelude.{◌*◌, ◌%◌, neg_ℤ, All, IfOk, IfSome, option_and_then}
 use Rattle.std.specs.Str.{bytes_eq}
 use Rattle.std.proofs.lemmas.Result.{IfOk-at_ok}
 use Rattle.std.proofs.lemmas.Bool.Decides.{nat_tests}
 use Rattle.std.proofs.lemmas.Int.{ints}
-use Rattle.box_geo.specs.declared.limits.TheConstants.{MAX_CUTOFF, MAX_EPSILON, MAX_KINDS, MAX_MASS, MAX_REST_LENGTH, MAX_SIGMA, MAX_SKIN, MAX_STEP, MAX_STIFFNESS, MAX_TIMESTEP, MIN_MASS}
+use Rattle.std.proofs.lemmas.List.Elements.{All-cons, All-nil}
+use Rattle.box_geo.specs.declared.limits.TheConstants.{FULL_WEIGHT, MAX_CUTOFF, MAX_EPSILON, MAX_FORCE, MAX_KINDS, MAX_MASS, MAX_REST_LENGTH, MAX_SIGMA, MAX_SKIN, MAX_STEP, MAX_STIFFNESS, MAX_TEMPERATURE, MAX_TIMESTEP, MIN_MASS}
 use Rattle.fx_num.specs.Decimal.{read_count, read_number}
 use Rattle.fx_num.specs.declared.decimal.NumError.{NumError}
-use Rattle.command_words.specs.Limits.{AreCoefficients, IsBetween, IsCutoff, KeepsLimits}
-use Rattle.command_words.specs.declared.limits.TheConstants.{MIN_DENSITY, MAX_DENSITY}
+use Rattle.command_words.specs.Limits.{ActionKeepsLimits, AreCoefficients, ArePeriods, AreTypeCounts, IsBetween, IsCutoff, IsForce, IsWeight, KeepsLimits, StyleKeepsLimits}
+use Rattle.command_words.specs.declared.limits.TheConstants.{MAX_DENSITY, MAX_REPEAT, MAX_SEED, MIN_DENSITY}
 use Rattle.command_words.specs.Bonds as bonds_commands
 use Rattle.command_words.specs.Computes as computes_commands
 use Rattle.command_words.specs.Dumps as dumps_commands
@@ -28,9 +29,10 @@ use Rattle.command_words.specs.SystemFiles as system_files_commands
 use Rattle.command_words.specs.Thermo as thermo_commands
 use Rattle.command_words.specs.Variables as variables_commands
 use Rattle.command_words.specs.Velocity as velocity_commands
+use Rattle.command_words.specs.Vocabulary.{is_among}
 use Rattle.command_words.specs.Ranges.{before, count_within, first_kind, from, kind_range, kind_range_of, last_kind, within}
 use Rattle.command_words.specs.Read.{form_of, make, read}
-use Rattle.command_words.specs.Values.{count, kinds, kinds_at, number, number_at, then, whole, whole_at, word}
+use Rattle.command_words.specs.Values.{count, given, kinds, kinds_at, number, number_at, then, value_place, whole, whole_at, word}
 use Rattle.command_words.specs.declared.bonds.BondsForm.TheVariants as bonds
 use Rattle.command_words.specs.declared.bonds.BondsForm.{BondsForm}
 use Rattle.command_words.specs.declared.command.Command.{Command}
@@ -41,10 +43,12 @@ use Rattle.command_words.specs.declared.dumps.DumpsForm.TheVariants as dumps
 use Rattle.command_words.specs.declared.dumps.DumpsForm.{DumpsForm}
 use Rattle.command_words.specs.declared.fixes.FixesForm.TheVariants as fixes
 use Rattle.command_words.specs.declared.fixes.FixesForm.{FixesForm}
+use Rattle.command_words.specs.declared.fixes.Periods.{Periods}
 use Rattle.command_words.specs.declared.flow.FlowForm.TheVariants as flow
 use Rattle.command_words.specs.declared.flow.FlowForm.{FlowForm}
 use Rattle.command_words.specs.declared.forms.Form.TheVariants as form
 use Rattle.command_words.specs.declared.forms.Form.{Form}
+use Rattle.command_words.specs.declared.lattice.Counts.{Counts}
 use Rattle.command_words.specs.declared.lattice.LatticeForm.TheVariants as lattice
 use Rattle.command_words.specs.declared.lattice.LatticeForm.{LatticeForm}
 use Rattle.command_words.specs.declared.masses_groups.MassesGroupsForm.TheVariants as masses_groups
@@ -74,6 +78,10 @@ use Rattle.command_words.specs.declared.thermo.ThermoForm.{ThermoForm}
 use Rattle.command_words.specs.declared.variables.VariablesForm.TheVariants as variables
 use Rattle.command_words.specs.declared.variables.VariablesForm.{VariablesForm}
 use Rattle.command_words.specs.declared.velocity.VelocityForm.{VelocityForm}
+use Rattle.command_words.specs.declared.velocity.VelocityForm.TheVariants as velocity
+use Rattle.command_words.specs.declared.vocabulary.Word.{Word}
+use Rattle.command_words.specs.declared.vocabulary.Word.TheVariants as name
+use Rattle.command_words.specs.declared.vocabulary.Words.TheVariants.{Null}
 
 -- what is made of what was read
 then_gives : {X Y : Type 0} (P : Y → Type 0) (r : Result X WordRefusal) (next : X → Result Y WordRefusal) → ((x : X) → r ≡ Ok x → IfOk (next x) P) → IfOk (then r next) P
@@ -142,6 +150,10 @@ kinds_by place None r each e = absurd (cc)
 kinds_first : (place : ℕ) (words : List (List ℕ)) (r : KindRange) → kinds place words ≡ Ok r → 1 ≤ r.first
 kinds_first place words r e = kinds_by place (kind_range (word place words)) r (range_by (before 42 (word place words)) (from 42 (word place words))) e
 
+-- three numbers of a list
+all_three : {X : Type 0} (P : X → Type 0) (x y z : X) → P x → P y → P z → All P (x ∷ y ∷ z ∷ [])
+all_three P x y z px py pz = All-cons P x (y ∷ z ∷ []) px (All-cons P y (z ∷ []) py (All-cons P z [] pz (All-nil P)))
+
 -- the dimension
 dimension_is : (n : ℕ) → (2 ≤ n) × (n ≤ 3) → (n ≡ 2) ⊎ (n ≡ 3)
 dimension_is n b = grind (arith, b.0, b.1)
@@ -164,17 +176,43 @@ setup_keeps setup.Newton words = tt
 setup_keeps setup.AtomModify words = tt
 setup_keeps setup.Echo words = tt
 
+-- the numbers of types of a box
+option_by : (o : Option ℕ) (words : List (List ℕ)) (n : ℕ) → lattice_commands.kinds_at o words ≡ Ok n → n ≤ MAX_KINDS
+option_by None words n e = grind arith
+option_by (Some place) words n e = (whole_between place 0 MAX_KINDS words n e).1
+
+option_within : (option : Word) (words : List (List ℕ)) (n : ℕ) → lattice_commands.kinds_option option words ≡ Ok n → n ≤ MAX_KINDS
+option_within option words n e = option_by (value_place option 3 words) words n e
+
+unless_bad_gives : {X : Type 0} (P : X → Type 0) (o : Option ℕ) (r : Result X WordRefusal) → IfOk r P → IfOk (lattice_commands.unless_bad o r) P
+unless_bad_gives P None r gives = gives
+unless_bad_gives P (Some place) r gives = tt
+
+abbrev CountsKeep : Counts → Type 0
+CountsKeep n = AreTypeCounts n.kinds n.bonds n.angles
+
+counts_keep : (words : List (List ℕ)) → IfOk (lattice_commands.box_counts words) CountsKeep
+counts_keep words =
+    then_gives CountsKeep (whole 1 1 MAX_KINDS words) _ (λ n e. unless_bad_gives CountsKeep (lattice_commands.box_excess words) _
+    (then_gives CountsKeep (lattice_commands.kinds_option name.BondTypes words) _ (λ b f.
+    then_gives CountsKeep (lattice_commands.kinds_option name.AngleTypes words) _ (λ a g.
+    record {
+      kinds = whole_between 1 1 MAX_KINDS words n e;
+      bond_kinds = option_within name.BondTypes words b f;
+      angle_kinds = option_within name.AngleTypes words a g;
+    }))))
+
 lattice_keeps : (f : LatticeForm) (words : List (List ℕ)) → Keeps (lattice_commands.make f words)
-lattice_keeps lattice.Lattice words = then_keeps (number 2 MIN_DENSITY MAX_DENSITY words) _ (λ rho e. tt)
+lattice_keeps lattice.Lattice words = then_keeps (number 2 MIN_DENSITY MAX_DENSITY words) _ (λ rho e. number_between 2 MIN_DENSITY MAX_DENSITY words rho e)
 lattice_keeps lattice.RegionBlock words = then_keeps (lattice_commands.block_in words) _ (λ b e. tt)
 lattice_keeps lattice.RegionSphere words = then_keeps (lattice_commands.sphere_in words) _ (λ s e. tt)
 lattice_keeps lattice.RegionUnion words = tt
 lattice_keeps lattice.RegionIntersect words = tt
-lattice_keeps lattice.CreateBox words = then_keeps (lattice_commands.box_counts words) _ (λ n e. tt)
-lattice_keeps lattice.CreateAtomsBox words = then_keeps (lattice_commands.kind words) _ (λ n e. tt)
-lattice_keeps lattice.CreateAtomsRegion words = then_keeps (lattice_commands.kind words) _ (λ n e. tt)
+lattice_keeps lattice.CreateBox words = then_keeps (lattice_commands.box_counts words) _ (λ n e. IfOk-at_ok CountsKeep e (counts_keep words))
+lattice_keeps lattice.CreateAtomsBox words = then_keeps (lattice_commands.kind words) _ (λ n e. whole_between 1 1 MAX_KINDS words n e)
+lattice_keeps lattice.CreateAtomsRegion words = then_keeps (lattice_commands.kind words) _ (λ n e. whole_between 1 1 MAX_KINDS words n e)
 lattice_keeps lattice.CreateAtomsSingle words =
-    then_keeps (lattice_commands.kind words) _ (λ n e. then_keeps (lattice_commands.vector 3 4 5 words) _ (λ x f. tt))
+    then_keeps (lattice_commands.kind words) _ (λ n e. then_keeps (lattice_commands.vector 3 4 5 words) _ (λ x f. whole_between 1 1 MAX_KINDS words n e))
 
 system_files_keep : (f : SystemFilesForm) (words : List (List ℕ)) → KeepsLimits (system_files_commands.make f words)
 system_files_keep system_files.ReadData words = tt
@@ -232,28 +270,108 @@ pairs_keep pairs.PairModify words = tt
 
 bonds_keep : (f : BondsForm) (words : List (List ℕ)) → Keeps (bonds_commands.make f words)
 bonds_keep bonds.SpecialBonds words =
-    then_keeps (bonds_commands.weight 2 words) _ (λ a e. then_keeps (bonds_commands.weight 3 words) _ (λ b f. then_keeps (bonds_commands.weight 4 words) _ (λ c g. tt)))
+    then_keeps (bonds_commands.weight 2 words) _ (λ a e. then_keeps (bonds_commands.weight 3 words) _ (λ b f. then_keeps (bonds_commands.weight 4 words) _ (λ c g.
+    all_three IsWeight a b c (number_between 2 (pos 0) FULL_WEIGHT words a e) (number_between 3 (pos 0) FULL_WEIGHT words b f)
+    (number_between 4 (pos 0) FULL_WEIGHT words c g))))
 bonds_keep bonds.BondStyle words = tt
 bonds_keep bonds.BondCoeff words =
     then_keeps (kinds 1 words) _ (λ t e. then_keeps (number 2 (pos 0) MAX_STIFFNESS words) _ (λ k f.
-    then_keeps (number 3 (pos 0) MAX_REST_LENGTH words) _ (λ r g. tt)))
+    then_keeps (number 3 (pos 0) MAX_REST_LENGTH words) _ (λ r g.
+    record {
+      first = kinds_first 1 words t e;
+      stiffness = number_between 2 (pos 0) MAX_STIFFNESS words k f;
+      rest = number_between 3 (pos 0) MAX_REST_LENGTH words r g;
+    })))
 bonds_keep bonds.AngleStyle words = tt
-bonds_keep bonds.AngleCoeff words = then_keeps (kinds 1 words) _ (λ t e. then_keeps (number 2 (pos 0) MAX_STIFFNESS words) _ (λ k f. tt))
+bonds_keep bonds.AngleCoeff words =
+    then_keeps (kinds 1 words) _ (λ t e. then_keeps (number 2 (pos 0) MAX_STIFFNESS words) _ (λ k f.
+    record { first = kinds_first 1 words t e; stiffness = number_between 2 (pos 0) MAX_STIFFNESS words k f }))
 
 neighbors_keep : (f : NeighborsForm) (words : List (List ℕ)) → Keeps (neighbors_commands.make f words)
 neighbors_keep neighbors.Neighbor words = then_keeps (number 1 (pos 0) MAX_SKIN words) _ (λ s e. number_between 1 (pos 0) MAX_SKIN words s e)
 neighbors_keep neighbors.NeighModify words = tt
 neighbors_keep neighbors.CommModify words = then_keeps (number 2 (pos 0) MAX_CUTOFF words) _ (λ c e. number_between 2 (pos 0) MAX_CUTOFF words c e)
 
+action_keeps : (f : VelocityForm) (words : List (List ℕ)) → IfOk (velocity_commands.action f words) ActionKeepsLimits
+action_keeps velocity.VelocityCreate words =
+    then_gives ActionKeepsLimits (number 3 (pos 0) MAX_TEMPERATURE words) _ (λ t e. then_gives ActionKeepsLimits (whole 4 1 MAX_SEED words) _ (λ s f.
+    let seed : (1 ≤ s) × (s ≤ MAX_SEED) = whole_between 4 1 MAX_SEED words s f in
+    record { temperature = number_between 3 (pos 0) MAX_TEMPERATURE words t e; seed_low = seed.0; seed_high = seed.1 }))
+action_keeps velocity.VelocitySet words =
+    then_gives ActionKeepsLimits (velocity_commands.component 3 words) _ (λ x e. then_gives ActionKeepsLimits (velocity_commands.component 4 words) _ (λ y f.
+    then_gives ActionKeepsLimits (velocity_commands.component 5 words) _ (λ z g. tt)))
+action_keeps velocity.VelocityScale words =
+    then_gives ActionKeepsLimits (number 3 (pos 0) MAX_TEMPERATURE words) _ (λ t e. number_between 3 (pos 0) MAX_TEMPERATURE words t e)
+action_keeps velocity.VelocityZero words = tt
+
 velocity_keeps : (f : VelocityForm) (words : List (List ℕ)) → Keeps (velocity_commands.make f words)
-velocity_keeps f words = then_keeps (velocity_commands.action f words) _ (λ a e. tt)
+velocity_keeps f words = then_keeps (velocity_commands.action f words) _ (λ a e. IfOk-at_ok ActionKeepsLimits e (action_keeps f words))
+
+-- a component of a force that is set, if it does not stay
+set_by : (stays : Bool) (r : Result ℤ WordRefusal) (o : Option ℤ) → ((v : ℤ) → r ≡ Ok v → IsForce v) → cond stays (Ok None) (given r) ≡ Ok o → IfSome o IsForce
+set_by stays r None each e = tt
+set_by true r (Some v) each e = absurd (cc)
+set_by false (Ok w) (Some v) each e = each v (cc)
+set_by false (Err why) (Some v) each e = absurd (cc)
+
+force_set : (place : ℕ) (words : List (List ℕ)) (o : Option ℤ) → fixes_commands.force_or place words ≡ Ok o → IfSome o IsForce
+force_set place words o e =
+    set_by (is_among Null (word place words)) (number place (neg_ℤ MAX_FORCE) MAX_FORCE words) o (number_between place (neg_ℤ MAX_FORCE) MAX_FORCE words) e
+
+set_force_keeps : (words : List (List ℕ)) → IfOk (fixes_commands.set_force words) StyleKeepsLimits
+set_force_keeps words =
+    then_gives StyleKeepsLimits (fixes_commands.force_or 4 words) _ (λ x e. then_gives StyleKeepsLimits (fixes_commands.force_or 5 words) _ (λ y f.
+    then_gives StyleKeepsLimits (fixes_commands.force_or 6 words) _ (λ z g.
+    all_three (λ o. IfSome o IsForce) x y z (force_set 4 words x e) (force_set 5 words y f) (force_set 6 words z g))))
+
+add_force_keeps : (words : List (List ℕ)) → IfOk (fixes_commands.add_force words) StyleKeepsLimits
+add_force_keeps words =
+    then_gives StyleKeepsLimits (fixes_commands.force 4 words) _ (λ x e. then_gives StyleKeepsLimits (fixes_commands.force 5 words) _ (λ y f.
+    then_gives StyleKeepsLimits (fixes_commands.force 6 words) _ (λ z g.
+    all_three IsForce x y z (number_between 4 (neg_ℤ MAX_FORCE) MAX_FORCE words x e) (number_between 5 (neg_ℤ MAX_FORCE) MAX_FORCE words y f)
+    (number_between 6 (neg_ℤ MAX_FORCE) MAX_FORCE words z g))))
+
+-- the periods of averages
+abbrev PeriodsKeep : Periods → Type 0
+PeriodsKeep p = ArePeriods p.every p.repeat p.freq
+
+if_regular : (regular : Bool) (p : Periods) (why : WordRefusal) → (regular ≡ true → PeriodsKeep p) → IfOk (cond regular (Ok p) (Err why)) PeriodsKeep
+if_regular true p why keeps = keeps refl
+if_regular false p why keeps = tt
+
+regular_multiple : (every repeat freq : ℕ) → fixes_commands.is_regular every repeat freq ≡ true → freq % every ≡ 0
+regular_multiple every repeat freq e = grind (arith, nat_tests)
+
+regular_room : (every repeat freq : ℕ) → fixes_commands.is_regular every repeat freq ≡ true → every * repeat ≤ freq
+regular_room every repeat freq e = grind (arith, nat_tests)
+
+periods_keep : (words : List (List ℕ)) → IfOk (fixes_commands.periods_in words) PeriodsKeep
+periods_keep words =
+    then_gives PeriodsKeep (whole 4 1 MAX_STEP words) _ (λ e g. then_gives PeriodsKeep (whole 5 1 MAX_REPEAT words) _ (λ r h.
+    then_gives PeriodsKeep (whole 6 1 MAX_STEP words) _ (λ f i.
+    let every : (1 ≤ e) × (e ≤ MAX_STEP) = whole_between 4 1 MAX_STEP words e g in
+    let repeat : (1 ≤ r) × (r ≤ MAX_REPEAT) = whole_between 5 1 MAX_REPEAT words r h in
+    let freq : (1 ≤ f) × (f ≤ MAX_STEP) = whole_between 6 1 MAX_STEP words f i in
+    if_regular (fixes_commands.is_regular e r f) _ _ (λ regular. record {
+      every_low = every.0;
+      every_high = every.1;
+      repeat_low = repeat.0;
+      repeat_high = repeat.1;
+      freq_low = freq.0;
+      freq_high = freq.1;
+      multiple = regular_multiple e r f regular;
+      room = regular_room e r f regular;
+    }))))
+
+average_keeps : (words : List (List ℕ)) → IfOk (fixes_commands.average words) StyleKeepsLimits
+average_keeps words = then_gives StyleKeepsLimits (fixes_commands.periods_in words) _ (λ p e. IfOk-at_ok PeriodsKeep e (periods_keep words))
 
 fixes_keep : (f : FixesForm) (words : List (List ℕ)) → Keeps (fixes_commands.make f words)
 fixes_keep fixes.FixNve words = tt
-fixes_keep fixes.FixSetForce words = then_keeps (fixes_commands.set_force words) _ (λ s e. tt)
-fixes_keep fixes.FixAddForce words = then_keeps (fixes_commands.add_force words) _ (λ s e. tt)
+fixes_keep fixes.FixSetForce words = then_keeps (fixes_commands.set_force words) _ (λ s e. IfOk-at_ok StyleKeepsLimits e (set_force_keeps words))
+fixes_keep fixes.FixAddForce words = then_keeps (fixes_commands.add_force words) _ (λ s e. IfOk-at_ok StyleKeepsLimits e (add_force_keeps words))
 fixes_keep fixes.FixEnforce2d words = tt
-fixes_keep fixes.FixAverage words = then_keeps (fixes_commands.average words) _ (λ s e. tt)
+fixes_keep fixes.FixAverage words = then_keeps (fixes_commands.average words) _ (λ s e. IfOk-at_ok StyleKeepsLimits e (average_keeps words))
 fixes_keep fixes.FixExternal words = tt
 fixes_keep fixes.Unfix words = tt
 

@@ -1,9 +1,12 @@
-pub mod AlwaysLemmas
-pub mod EntryLemmas
-pub mod FileLemmas
-pub mod GoesLemmas
-pub mod OrderLemmas
+pub mod BothLemmas
+pub mod HeaderLemmas
+pub mod KeptLemmas
+pub mod LineLemmas
+pub mod OutcomeLemmas
+pub mod ReadLemmas
 pub mod RowLemmas
+pub mod TableLemmas
+pub mod WordLemmas
+pub mod StateLemmas
 pub mod SoundLemmas
-pub mod TextLemmas
-pub mod WrittenLemmas
+mod Worked

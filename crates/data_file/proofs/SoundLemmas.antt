@@ -1,313 +1,224 @@
--- What a data file says is within the limits.
-use Rattle.std.proofs.Common.{◌≡◌, ◌∙◌, ◌+◌, ◌≤◌, ◌≤ℤ◌, ◌&&◌, ℕ, zero, suc, ℤ, Bool, true, false, cond, List, [], ◌∷◌, codes, Option, Some, None, Ok, length, map, is_none, is_some, option_and_then, slice_index_or, unwrap_or, refl, sym, ap, subst, arith}
+-- What a data file says keeps to the limits.
+use Rattle.std.proofs.Common.{◌≡◌, ◌∙◌, ◌+◌, ◌<◌, ◌==◌, ◌&&◌, Bool, true, false, not, cond, is_some, nat_lt, ℕ, ℤ, unsigned_abs, Option, Some, None, Result, Ok, Err, List, [], ◌∷◌, length, map, unwrap_or, refl, sym, ap, subst, arith}
 use Rattle.std.proofs.lemmas.Bool.Decides.{nat_tests}
-use Rattle.std.proofs.lemmas.Int.{ints}
 use Rattle.std.proofs.lemmas.List.{length-map}
-use Rattle.std.proofs.lemmas.List.Elements.{All-map, All-nil, All-weaker}
+use Rattle.std.proofs.lemmas.List.Elements.{All-map, All-weaker}
 use Rattle.std.proofs.lemmas.Map.Entries.{All-lookup}
-use Rattle.std.proofs.lemmas.Map.Keys.{below_from_sorted}
-use Rattle.std.proofs.lemmas.Option.{IfSome_then}
 use Rattle.std.specs.BTreeMap.{is_at}
-use Rattle.std.specs.List.{All}
-use Rattle.std.specs.List.Sorted.{IsStrictlySortedBy}
 use Rattle.std.specs.Map.{keys_of}
 use Rattle.std.specs.Option.{IfSome}
 use Rattle.std.specs.Ordering.{nat_cmp}
+use Rattle.box_geo.specs.declared.atoms.Angle.{Angle}
 use Rattle.box_geo.specs.declared.atoms.Atom.{Atom}
-use Rattle.box_geo.specs.declared.limits.TheConstants.{MAX_ATOMS, MAX_ID, MAX_MASS, MIN_MASS}
-use Rattle.box_geo.specs.declared.sim_box.Axis.{Axis}
-use Rattle.box_geo.specs.declared.sim_box.Axis.TheVariants as axis
-use Rattle.box_geo.specs.declared.sim_box.Extent.{Extent}
+use Rattle.box_geo.specs.declared.atoms.Bond.{Bond}
+use Rattle.box_geo.specs.declared.limits.TheConstants.{MAX_ATOMS, MAX_BONDS, MAX_KINDS, MAX_SPEED}
 use Rattle.box_geo.specs.declared.sim_box.Sides.{Sides}
-use Rattle.box_geo.specs.Sides.{extent_of, extent_refusal, x_of, y_of, z_of, Holds, IsInside, IsSound, IsSoundExtent}
-use Rattle.box_geo.specs.Wrap.{holds}
-use Rattle.input_text.specs.Lines.{Line}
-use Rattle.input_text.specs.Readers.{Place, Reads, line, times}
-use Rattle.input_text.specs.Values.{no_words, is_between, is_whole_between, number_in, number_within, vector_of, whole_in, whole_within, one}
-use Rattle.data_file.specs.declared.«data».Data.{Data}
+use Rattle.box_geo.specs.declared.styles.AtomStyle.{AtomStyle}
+use Rattle.data_file.specs.declared.fault.DataFault.{DataFault}
+use Rattle.data_file.specs.declared.fault.DataFault.TheVariants as fault
 use Rattle.data_file.specs.declared.header.Header.{Header}
-use Rattle.data_file.specs.Data.{IsSlow, IsSoundAtom, IsSoundData, Rises, atom_at, atoms_given, count, extent_in, extent_with, header, is_inside, is_slow, mass, pair_in, pair_of, position_in, position_row, position_with, positions_section, put, sections, sides, sides_with, title, under, velocities_given, velocities_section, velocity_in, velocity_row, velocity_with, zeros}
-use Rattle.data_file.proofs.AlwaysLemmas.{Always, OnRead, always_behind, always_gives, always_line, always_then, always_times, read_on}
-use Rattle.data_file.proofs.EntryLemmas.{All-insert, length-insert, sorted-insert}
+use Rattle.data_file.specs.declared.reading.Reading.{Reading}
+use Rattle.data_file.specs.declared.sections.Begun.{Begun}
+use Rattle.data_file.specs.declared.sections.Section.{Section}
+use Rattle.data_file.specs.declared.sections.Section.TheVariants.{Masses, PairCoeffs, BondCoeffs, AngleCoeffs, Atoms, Velocities, Bonds, Angles}
+use Rattle.data_file.specs.Data.{angle_types, at_line, atom_types, bond_types, contents_with, data_of, finished, goes_on, is_ready, is_whole, judge, judge_line, read_lines, row, start, titled, with_title, within, words_in, Contents}
+use Rattle.data_file.specs.Header.{empty, header_line, is_complete, sides_of}
+use Rattle.data_file.specs.Lines.{physical_lines}
+use Rattle.data_file.specs.Rows.{unless}
+use Rattle.data_file.specs.Sections.{begin, has_angles, has_begun, has_bonds, has_style, rows_of, section_of}
+use Rattle.data_file.specs.Sound.{IsAngle, IsAtom, IsBond, IsSoundSet, IsWithin, Rises}
+use Rattle.data_file.specs.Tables.{under, with_velocity, zeros}
+use Rattle.data_file.proofs.HeaderLemmas.{given_on, header_on, kinds_on, sides_on, sound_empty, IsSoundHeader}
+use Rattle.data_file.proofs.OutcomeLemmas.{On, on_made, on_unless}
+use Rattle.data_file.proofs.RowLemmas.{zeros_slow, IsAngleIn, IsBondIn}
+use Rattle.data_file.proofs.StateLemmas.{fresh_state, header_state, row_state, AreCounted, IsSoundState}
+use Rattle.data_file.proofs.TableLemmas.{All_masses, contains_met, length_masses, rises_sorted}
 
--- tests
-both : (a b : Bool) → (a && b) ≡ true → (a ≡ true) × (b ≡ true)
-both true true e = (refl, refl)
-both true false e = absurd cc
-both false true e = absurd cc
-both false false e = absurd cc
+-- titles
+begun_after : (section : Section) (g : Begun) → has_begun section (begin section g) ≡ true
+begun_after Masses g = refl
+begun_after PairCoeffs g = refl
+begun_after BondCoeffs g = refl
+begun_after AngleCoeffs g = refl
+begun_after Atoms g = refl
+begun_after Velocities g = refl
+begun_after Bonds g = refl
+begun_after Angles g = refl
 
-all_three : (a b c : Bool) → (a && b && c) ≡ true → (a ≡ true) × (b ≡ true) × (c ≡ true)
-all_three a b c e = let h = both (a && b) c e in let g = both a b h.0 in (g.0, g.1, h.1)
+not_true : (b : Bool) → not b ≡ false → b ≡ true
+not_true true e = refl
+not_true false e = absurd cc
 
-none_from_test : {V : Type 0} (o : Option V) → is_none o ≡ true → o ≡ None
-none_from_test None e = refl
-none_from_test (Some v) e = absurd cc
+counted_titled : (section : Section) (h : Header) (o : Option Section) (g : Begun) (met : List ℕ) (es : List (ℕ × Atom)) (bs : List Bond) (ts : List Angle)
+    → has_begun section g ≡ false → AreCounted h o g met es bs ts → AreCounted h (Some section) (begin section g) [] es bs ts
+counted_titled Masses h o g met es bs ts new c = record { few_atoms = c.few_atoms; few_bonds = c.few_bonds; few_angles = c.few_angles; filled = tt; no_atoms = c.no_atoms; no_bonds = c.no_bonds; no_angles = c.no_angles }
+counted_titled PairCoeffs h o g met es bs ts new c = record { few_atoms = c.few_atoms; few_bonds = c.few_bonds; few_angles = c.few_angles; filled = tt; no_atoms = c.no_atoms; no_bonds = c.no_bonds; no_angles = c.no_angles }
+counted_titled BondCoeffs h o g met es bs ts new c = record { few_atoms = c.few_atoms; few_bonds = c.few_bonds; few_angles = c.few_angles; filled = tt; no_atoms = c.no_atoms; no_bonds = c.no_bonds; no_angles = c.no_angles }
+counted_titled AngleCoeffs h o g met es bs ts new c = record { few_atoms = c.few_atoms; few_bonds = c.few_bonds; few_angles = c.few_angles; filled = tt; no_atoms = c.no_atoms; no_bonds = c.no_bonds; no_angles = c.no_angles }
+counted_titled Velocities h o g met es bs ts new c = record { few_atoms = c.few_atoms; few_bonds = c.few_bonds; few_angles = c.few_angles; filled = tt; no_atoms = c.no_atoms; no_bonds = c.no_bonds; no_angles = c.no_angles }
+counted_titled Atoms h o g met es bs ts new c = record { few_atoms = c.few_atoms; few_bonds = c.few_bonds; few_angles = c.few_angles; filled = omega (arith, c.no_atoms new); no_atoms = λ f. absurd cc; no_bonds = c.no_bonds; no_angles = c.no_angles }
+counted_titled Bonds h o g met es bs ts new c = record { few_atoms = c.few_atoms; few_bonds = c.few_bonds; few_angles = c.few_angles; filled = omega (arith, c.no_bonds new); no_atoms = c.no_atoms; no_bonds = λ f. absurd cc; no_angles = c.no_angles }
+counted_titled Angles h o g met es bs ts new c = record { few_atoms = c.few_atoms; few_bonds = c.few_bonds; few_angles = c.few_angles; filled = omega (arith, c.no_angles new); no_atoms = c.no_atoms; no_bonds = c.no_bonds; no_angles = λ f. absurd cc }
 
-cond_on : {V : Type 0} (P : V → Type 0) (b : Bool) (v : V) → (b ≡ true → P v) → IfSome (cond b (Some v) None) P
-cond_on P true v h = h refl
-cond_on P false v h = tt
+module _ (style : AtomStyle) (dim : ℕ) where
+  abbrev Sound : Reading → Type 0
+  Sound s = IsSoundState style dim s
 
--- numbers within limits
-whole_on : (low high : ℕ) (o : Option ℕ) → IfSome (option_and_then (λ n. cond (is_whole_between low high n) (Some n) None) o) (λ n. (low ≤ n) × (n ≤ high))
-whole_on low high None = tt
-whole_on low high (Some n) = cond_on (λ (m : ℕ). (low ≤ m) × (m ≤ high)) (is_whole_between low high n) n (λ t. grind (arith, nat_tests))
+  title_more : (section : Section) (s : Reading) → Sound s → has_begun section s.begun ≡ false → has_style section s.style ≡ true → Sound (record s { begun = begin section s.begun; section = Some section; met = [] })
+  title_more section s state new styled = record {
+    style_is = state.style_is;
+    dim_is = state.dim_is;
+    header = state.header;
+    lines = state.lines;
+    atoms = state.atoms;
+    tied = state.tied;
+    counted = counted_titled section s.header s.section s.begun s.met s.atoms s.bonds s.angles new state.counted;
+    styled = record { bonds = state.styled.bonds; angles = state.styled.angles; opened = begun_after section s.begun; styled = styled };
+    fresh = tt;
+  }
 
-number_on : (low high : ℤ) (o : Option ℤ) → IfSome (option_and_then (λ v. cond (is_between low high v) (Some v) None) o) (λ v. (low ≤ℤ v) × (v ≤ℤ high))
-number_on low high None = tt
-number_on low high (Some v) = cond_on (λ (w : ℤ). (low ≤ℤ w) × (w ≤ℤ high)) (is_between low high v) v (λ t. grind (arith, ints, nat_tests))
+  title_state : (section : Section) (s : Reading) → Sound s → On Sound (titled section s)
+  unfolding titled
+  title_state section s state =
+      let after : Reading = record s { begun = begin section s.begun; section = Some section; met = [] } in
+      on_unless Sound (has_begun section s.begun) fault.Twice (unless (not (has_style section s.style)) fault.Style (unless (not (is_ready section s)) fault.Missing (Ok after))) (λ new.
+      on_unless Sound (not (has_style section s.style)) fault.Style (unless (not (is_ready section s)) fault.Missing (Ok after)) (λ styled.
+      on_unless Sound (not (is_ready section s)) fault.Missing (Ok after) (λ _. title_more section s state new (not_true (has_style section s.style) styled))))
 
--- the number of atoms
-count_on : (words : List (List ℕ)) → IfSome (one (whole_within 0 MAX_ATOMS) words) (λ n. n ≤ MAX_ATOMS)
-count_on [] = tt
-count_on (word ∷ []) = IfSome_then (whole_within 0 MAX_ATOMS word) (whole_on 0 MAX_ATOMS (whole_in word)) (λ n h. h.1)
-count_on (word ∷ v ∷ words) = tt
+  room_from : (m n : ℕ) → not (nat_lt m n) ≡ false → m < n
+  room_from m n e = grind (arith, nat_tests)
 
-always_count : Always count (λ n. n ≤ MAX_ATOMS)
-unfolding count
-always_count =
-    always_behind (λ n. n ≤ MAX_ATOMS) (line (codes "*") no_words) _ (λ _.
-    always_behind (λ n. n ≤ MAX_ATOMS) (line [] no_words) _ (λ _.
-    always_then (λ n. n ≤ MAX_ATOMS) (λ n. n ≤ MAX_ATOMS) (line (codes "% atoms") (one (whole_within 0 MAX_ATOMS))) _ (always_line (λ n. n ≤ MAX_ATOMS) (codes "% atoms") (one (whole_within 0 MAX_ATOMS)) count_on) (λ n h.
-    always_behind (λ n. n ≤ MAX_ATOMS) (line (codes "1 atom types") no_words) _ (λ _.
-    always_gives (λ m. m ≤ MAX_ATOMS) n h))))
+  within_state : (o : Option Section) (s : Reading) (words : List (List ℕ)) → Sound s → s.section ≡ o → On Sound (within o s words)
+  within_state None s words state e =
+      on_made IsSoundHeader Sound (λ (h : Header). record s { header = h }) (header_line s.periodic s.header words) (header_on s.periodic s.header words state.header) (λ h g. header_state style dim s h state e g)
+  within_state (Some section) s words state e =
+      on_unless Sound (not (nat_lt (length s.met) (rows_of section s.header))) fault.NotALine (row section s words) (λ t.
+      row_state style dim s state section words e (room_from (length s.met) (rows_of section s.header) t))
 
--- the sides of the box
-extent_sound : (axis : Axis) (lo hi : ℤ) (periodic : Bool) → extent_refusal axis lo hi ≡ None → IsSoundExtent (extent_of lo hi periodic)
-extent_sound axis lo hi periodic fine = grind (arith, ints, nat_tests)
+  titles_state : (o : Option Section) (s : Reading) (words : List (List ℕ)) → Sound s → On Sound (with_title o s words)
+  titles_state (Some section) s words state = title_state section s state
+  titles_state None s words state = within_state s.section s words state refl
 
-extent_on : (axis : Axis) (periodic : Bool) (lo hi : Option ℤ) → IfSome (extent_with axis periodic lo hi) IsSoundExtent
-extent_on axis periodic (Some lo) (Some hi) =
-    cond_on IsSoundExtent (is_none (extent_refusal axis lo hi)) (extent_of lo hi periodic) (λ t. extent_sound axis lo hi periodic (none_from_test (extent_refusal axis lo hi) t))
-extent_on axis periodic (Some lo) None = tt
-extent_on axis periodic None (Some hi) = tt
-extent_on axis periodic None None = tt
+  skip_or : (b : Bool) (s : Reading) (r : Result Reading DataFault) → Sound s → On Sound r → On Sound (cond b (Ok s) r)
+  skip_or true s r state h = state
+  skip_or false s r state h = h
 
-extent_in_on : (axis : Axis) (periodic : Bool) (words : List (List ℕ)) → IfSome (extent_in axis periodic words) IsSoundExtent
-extent_in_on axis periodic [] = tt
-extent_in_on axis periodic (lo ∷ []) = tt
-extent_in_on axis periodic (lo ∷ hi ∷ []) = extent_on axis periodic (number_in lo) (number_in hi)
-extent_in_on axis periodic (lo ∷ hi ∷ word ∷ words) = tt
+  judge_state : (s : Reading) (words : List (List ℕ)) → Sound s → On Sound (judge s words)
+  unfolding judge
+  judge_state s words state = skip_or (length words == 0) s (with_title (section_of words) s words) state (titles_state (section_of words) s words state)
 
-pub record AreSoundSides (dimensions : ℕ) (s : Sides) : Type 0 where
-  pub sound : IsSound s
-  pub dim : s.dim ≡ dimensions
+  line_state : (n : ℕ) (s : Reading) (line : List ℕ) → Sound s → On Sound (judge_line n s line)
+  line_state n s line state = skip_or (n == 1) s (judge s (words_in line)) state (judge_state s (words_in line) state)
 
-sides_sound : (dim : ℕ) (x y z : Extent) → (2 ≤ dim) × (dim ≤ 3) → IsSoundExtent x → IsSoundExtent y → IsSoundExtent z → AreSoundSides dim (sides_with dim x y z)
-sides_sound dim x y z d p q r = record { sound = (p, q, r, d.0, d.1); dim = refl }
+-- the end: the types are there
+part_left : (a b : Bool) → (a && b) ≡ true → a ≡ true
+part_left true b e = refl
+part_left false b e = absurd cc
 
-always_sides : (dim : ℕ) (periodic : List Bool) → (2 ≤ dim) × (dim ≤ 3) → Always (sides dim periodic) (AreSoundSides dim)
-unfolding sides
-always_sides dim periodic d =
-    always_then IsSoundExtent _ _ _ (always_line IsSoundExtent _ _ (extent_in_on axis.X (slice_index_or periodic 0 false))) (λ x p.
-    always_then IsSoundExtent _ _ _ (always_line IsSoundExtent _ _ (extent_in_on axis.Y (slice_index_or periodic 1 false))) (λ y q.
-    always_then IsSoundExtent _ _ _ (always_line IsSoundExtent _ _ (extent_in_on axis.Z (slice_index_or periodic 2 false))) (λ z r.
-    always_gives (AreSoundSides dim) (sides_with dim x y z) (sides_sound dim x y z d p q r))))
+part_right : (a b : Bool) → (a && b) ≡ true → b ≡ true
+part_right true true e = refl
+part_right true false e = absurd cc
+part_right false b e = absurd cc
 
--- the mass
-abbrev pub IsMass : ℤ → Type 0
-IsMass m = (MIN_MASS ≤ℤ m) × (m ≤ℤ MAX_MASS)
+first_part : (a b c d e : Bool) → not (a && b && c && d && e) ≡ false → a ≡ true
+first_part a b c d e t = part_left a b (part_left (a && b) c (part_left (a && b && c) d (part_left (a && b && c && d) e (not_true (a && b && c && d && e) t))))
 
-mass_on : (words : List (List ℕ)) → IfSome (one (number_within MIN_MASS MAX_MASS) words) IsMass
-mass_on [] = tt
-mass_on (word ∷ []) = number_on MIN_MASS MAX_MASS (number_in word)
-mass_on (word ∷ v ∷ words) = tt
+types_of : (s : Reading) → not (is_whole s) ≡ false → is_some s.header.atom_types ≡ true
+types_of s t = part_right (is_some s.header.x && is_some s.header.y && is_some s.header.z) (is_some s.header.atom_types) (first_part (is_complete s.header) _ _ _ _ t)
 
-always_mass : Always mass IsMass
-unfolding mass
-always_mass = always_behind _ _ _ (λ _. always_line IsMass _ _ mass_on)
+module _ (style : AtomStyle) (dim : ℕ) (s : Reading) (state : IsSoundState style dim s) where
+  velocity_or : (v : Option (List ℤ)) → IfSome v (IsWithin (unsigned_abs MAX_SPEED)) → IsWithin (unsigned_abs MAX_SPEED) (unwrap_or v zeros)
+  velocity_or (Some v) h = h
+  velocity_or None h = zeros_slow
 
--- the header
-pub record IsSoundHeader (dimensions : ℕ) (h : Header) : Type 0 where
-  pub few : h.count ≤ MAX_ATOMS
-  pub sides : AreSoundSides dimensions h.sides
-  pub mass : IsMass h.mass
+  moving : (sides : Sides) (q : ℕ × Atom) → IsAtom sides (atom_types s) q.1 → IsAtom sides (atom_types s) (with_velocity s.velocities q)
+  moving sides q h = record {
+    inside = h.inside;
+    kind = h.kind;
+    id_low = h.id_low;
+    id_high = h.id_high;
+    v = velocity_or (under q.0 s.velocities) (All-lookup (IsWithin (unsigned_abs MAX_SPEED)) (is_at (nat_cmp q.0)) s.velocities state.atoms.slow);
+    f = h.f;
+    image = h.image;
+  }
 
-always_header : (dim : ℕ) (periodic : List Bool) → (2 ≤ dim) × (dim ≤ 3) → Always (header dim periodic) (IsSoundHeader dim)
-unfolding header
-always_header dim periodic d =
-    always_then (λ n. n ≤ MAX_ATOMS) _ _ _ always_count (λ n few.
-    always_then (AreSoundSides dim) _ _ _ (always_sides dim periodic d) (λ s sound.
-    always_then IsMass _ _ _ always_mass (λ m within.
-    always_gives (IsSoundHeader dim) _ (record { few = few; sides = sound; mass = within }))))
+  ids_same : (es : List (ℕ × Atom)) → map (λ (a : Atom). a.id) (map (with_velocity s.velocities) es) ≡ map (λ (q : ℕ × Atom). q.1.id) es
+  ids_same [] = refl
+  ids_same (e ∷ es) = ap (λ (ids : List ℕ). e.1.id ∷ ids) (ids_same es)
 
-pub IsSound-header : (dim : ℕ) (periodic : List Bool) (old new : Place) (h : Header) → (2 ≤ dim) × (dim ≤ 3) → Reads {X = Header} (header dim periodic) old (Ok h) new → IsSoundHeader dim h
-IsSound-header dim periodic old new h d r = read_on (IsSoundHeader dim) _ _ r.value ((always_header dim periodic d).holds old.number old.lines)
+  ids_are : map (λ (a : Atom). a.id) (map (with_velocity s.velocities) s.atoms) ≡ keys_of s.atoms
+  ids_are = ids_same s.atoms ∙ state.atoms.named
 
--- a row: an id within the limit, and for positions a place inside the box
-record IsPosition (s : Sides) (p : ℕ × List ℤ) : Type 0 where
-  pub least : 1 ≤ p.0
-  pub greatest : p.0 ≤ MAX_ID
-  pub inside : IsInside s p.1
+  bond_of : (ids : List ℕ) (b : Bond) → ids ≡ keys_of s.atoms → IsBondIn (bond_types s) (keys_of s.atoms) b → IsBond (bond_types s) ids b
+  bond_of ids b e h = subst (λ (ks : List ℕ). IsBond (bond_types s) ks b) (sym e) (record { kind = h.kind; a = contains_met b.a (keys_of s.atoms) h.a; b = contains_met b.b (keys_of s.atoms) h.b; differ = h.differ })
 
-abbrev IsId : ℕ → Type 0
-IsId id = (1 ≤ id) × (id ≤ MAX_ID)
+  angle_of : (ids : List ℕ) (t : Angle) → ids ≡ keys_of s.atoms → IsAngleIn (angle_types s) (keys_of s.atoms) t → IsAngle (angle_types s) ids t
+  angle_of ids t e h = subst (λ (ks : List ℕ). IsAngle (angle_types s) ks t) (sym e) (record {
+    kind = h.kind;
+    a = contains_met t.a (keys_of s.atoms) h.a;
+    b = contains_met t.b (keys_of s.atoms) h.b;
+    c = contains_met t.c (keys_of s.atoms) h.c;
+    first = h.first;
+    second = h.second;
+    outer = h.outer;
+  })
 
-pair_of_on : (id : Option ℕ) (v : Option (List ℤ)) → IfSome id IsId → IfSome (pair_of id v) (λ p. IsId p.0)
-pair_of_on (Some id) (Some v) h = h
-pair_of_on (Some id) None h = tt
-pair_of_on None (Some v) h = tt
-pair_of_on None None h = tt
+  set_of : (sides : Sides) → is_some s.header.atom_types ≡ true → sides_of s.dim s.header ≡ Some sides → On (IsSoundSet style dim) (contents_with s (Some sides))
+  set_of sides typed is =
+      let kinds = kinds_on s.header.atom_types state.header.atom_types typed in
+      record {
+        dim = (sides_on s.dim s.header sides state.header is).1 ∙ state.dim_is;
+        kinds = record {
+          some = kinds.0;
+          atoms = kinds.1;
+          bonds = given_on MAX_KINDS s.header.bond_types state.header.bond_types;
+          angles = given_on MAX_KINDS s.header.angle_types state.header.angle_types;
+          masses = length_masses (atom_types s) s.masses;
+          mass = All_masses (atom_types s) s.masses state.lines.mass;
+        };
+        coefficients = record { pair = state.lines.pair; bond = state.lines.bond; angle = state.lines.angle };
+        bound = record {
+          few_atoms = omega (arith, length-map s.atoms (with_velocity s.velocities), state.counted.few_atoms, given_on MAX_ATOMS s.header.atoms state.header.atoms);
+          atoms = All-map (IsAtom sides (atom_types s)) (with_velocity s.velocities) s.atoms
+              (All-weaker (λ (q : ℕ × Atom). IsAtom sides (atom_types s) q.1) (λ (q : ℕ × Atom). IsAtom sides (atom_types s) (with_velocity s.velocities q)) (moving sides) s.atoms (state.atoms.each sides is));
+          rising = subst Rises (sym ids_are) (rises_sorted (keys_of s.atoms) state.atoms.sorted);
+          few_bonds = omega (arith, state.counted.few_bonds, given_on MAX_BONDS s.header.bonds state.header.bonds);
+          bonds = All-weaker (IsBondIn (bond_types s) (keys_of s.atoms)) (IsBond (bond_types s) (map (λ (a : Atom). a.id) (map (with_velocity s.velocities) s.atoms))) (λ b h. bond_of _ b ids_are h) s.bonds state.tied.bonds;
+          few_angles = omega (arith, state.counted.few_angles, given_on MAX_BONDS s.header.angles state.header.angles);
+          angles = All-weaker (IsAngleIn (angle_types s) (keys_of s.atoms)) (IsAngle (angle_types s) (map (λ (a : Atom). a.id) (map (with_velocity s.velocities) s.atoms))) (λ t h. angle_of _ t ids_are h) s.angles state.tied.angles;
+          without_bonds = λ e. state.styled.bonds (ap has_bonds state.style_is ∙ e);
+          without_angles = λ e. state.styled.angles (ap has_angles state.style_is ∙ e);
+        };
+      }
 
-pair_on : (words : List (List ℕ)) → IfSome (pair_in words) (λ p. IsId p.0)
-pair_on [] = tt
-pair_on (a ∷ []) = tt
-pair_on (a ∷ b ∷ []) = tt
-pair_on (a ∷ b ∷ c ∷ []) = tt
-pair_on (id ∷ x ∷ y ∷ z ∷ []) = pair_of_on (whole_within 1 MAX_ID id) (vector_of (number_in x) (number_in y) (number_in z)) (whole_on 1 MAX_ID (whole_in id))
-pair_on (a ∷ b ∷ c ∷ d ∷ e ∷ words) = tt
+  set_by : (o : Option Sides) → is_some s.header.atom_types ≡ true → sides_of s.dim s.header ≡ o → On (IsSoundSet style dim) (contents_with s o)
+  set_by None typed is = tt
+  set_by (Some sides) typed is = set_of sides typed is
 
-Holds-along : (e : Extent) (x : ℤ) → holds e x ≡ true → Holds e x
-Holds-along e x t = grind (arith, ints, nat_tests)
+  pub finished_on : On (IsSoundSet style dim) (finished s)
+  unfolding finished
+  finished_on = on_unless (IsSoundSet style dim) (not (is_whole s)) fault.Missing (contents_with s (sides_of s.dim s.header)) (λ t. set_by (sides_of s.dim s.header) (types_of s t) refl)
 
-IsInside-from : (s : Sides) (p : List ℤ) → is_inside s p ≡ true → IsInside s p
-IsInside-from s p t =
-    let h = all_three (holds s.x (x_of p)) (holds s.y (y_of p)) (holds s.z (z_of p)) t in
-    (Holds-along s.x (x_of p) h.0, Holds-along s.y (y_of p) h.1, Holds-along s.z (z_of p) h.2)
+-- whole files
+abbrev OnRead : AtomStyle → ℕ → Result Contents (ℕ × DataFault) → Type 0
+OnRead style dim (Ok c) = IsSoundSet style dim c
+OnRead style dim (Err why) = Unit {0}
 
-IsSlow-from : (v : List ℤ) → is_slow v ≡ true → IsSlow v
-IsSlow-from v t = grind (arith, nat_tests)
+end_on : (style : AtomStyle) (dim n : ℕ) (r : Result Contents DataFault) → On (IsSoundSet style dim) r → OnRead style dim (at_line n r)
+end_on style dim n (Ok c) h = h
+end_on style dim n (Err why) h = tt
 
-abbrev IsNewPosition : Sides → List (ℕ × List ℤ) → ℕ × List ℤ → Type 0
-IsNewPosition s positions p = IsPosition s p × (under p.0 positions ≡ None)
+goes_on_on : (style : AtomStyle) (dim n : ℕ) (next : Reading → Result Contents (ℕ × DataFault)) (r : Result Reading DataFault) → On (IsSoundState style dim) r → ((t : Reading) → IsSoundState style dim t → OnRead style dim (next t)) → OnRead style dim (goes_on n next r)
+goes_on_on style dim n next (Ok t) h f = f t h
+goes_on_on style dim n next (Err why) h f = tt
 
-position_on : (s : Sides) (positions : List (ℕ × List ℤ)) (p : Option (ℕ × List ℤ)) → IfSome p (λ q. IsId q.0) → IfSome (position_with s positions p) (IsNewPosition s positions)
-position_on s positions None h = tt
-position_on s positions (Some p) h =
-    cond_on (IsNewPosition s positions) (is_inside s p.1 && is_none (under p.0 positions)) p (λ t.
-    let b = both (is_inside s p.1) (is_none (under p.0 positions)) t in
-    (record { least = h.0; greatest = h.1; inside = IsInside-from s p.1 b.0 }, none_from_test (under p.0 positions) b.1))
+lines_on : (style : AtomStyle) (dim : ℕ) (lines : List (List ℕ)) (n : ℕ) (s : Reading) → IsSoundState style dim s → OnRead style dim (read_lines lines n s)
+lines_on style dim [] n s state = end_on style dim n (finished s) (finished_on style dim s state)
+lines_on style dim (line ∷ lines) n s state = goes_on_on style dim n (read_lines lines (n + 1)) (judge_line n s line) (line_state style dim n s line state) (lines_on style dim lines (n + 1))
 
-position_in_on : (s : Sides) (positions : List (ℕ × List ℤ)) (words : List (List ℕ)) → IfSome (position_in s positions words) (IsNewPosition s positions)
-position_in_on s positions words = position_on s positions (pair_in words) (pair_on words)
+read_on : (style : AtomStyle) (periodic : List Bool) (dim : ℕ) (bytes : List ℕ) → OnRead style dim (data_of style periodic dim bytes)
+unfolding data_of
+read_on style periodic dim bytes = lines_on style dim (physical_lines bytes) 1 (start style periodic dim) (fresh_state style periodic dim empty sound_empty)
 
--- the positions so far
-record ArePositions (s : Sides) (many : ℕ) (entries : List (ℕ × List ℤ)) : Type 0 where
-  pub rising : IsStrictlySortedBy nat_cmp (keys_of entries)
-  pub each : All (IsPosition s) entries
-  pub size : length entries ≡ many
-
-always_position : (s : Sides) (j : ℕ) (positions : List (ℕ × List ℤ)) → ArePositions s j positions → Always (position_row s positions) (ArePositions s (j + 1))
-unfolding position_row
-always_position s j positions h =
-    always_then (IsNewPosition s positions) (ArePositions s (j + 1)) (line (codes "% 1 % % %") (position_in s positions)) _
-    (always_line (IsNewPosition s positions) (codes "% 1 % % %") (position_in s positions) (position_in_on s positions)) (λ q new.
-    always_gives (ArePositions s (j + 1)) (put positions q) (record {
-      rising = sorted-insert positions q.0 q.1 h.rising;
-      each = All-insert (IsPosition s) positions q.0 q.1 new.1 new.0 h.each;
-      size = length-insert positions q.0 q.1 new.1 ∙ ap (λ n. n + 1) h.size;
-    }))
-
-no_positions : (s : Sides) → ArePositions s 0 []
-unfolding IsStrictlySortedBy
-no_positions s = record { rising = tt; each = All-nil (IsPosition s); size = refl }
-
-always_positions : (h : Header) → Always (positions_section h) (ArePositions h.sides h.count)
-unfolding positions_section
-always_positions h =
-    let e : 0 + h.count ≡ h.count = omega arith in
-    always_behind (ArePositions h.sides h.count) (title (codes "Atoms")) _ (λ _.
-    subst (λ (n : ℕ). Always (times h.count (position_row h.sides) []) (ArePositions h.sides n)) e
-    (always_times (ArePositions h.sides) (position_row h.sides) (always_position h.sides) h.count 0 [] (no_positions h.sides)))
-
--- the velocities so far
-abbrev AreSlow : List (ℕ × List ℤ) → Type 0
-AreSlow velocities = All (λ q. IsSlow q.1) velocities
-
-abbrev IsNewVelocity : List (ℕ × List ℤ) → ℕ × List ℤ → Type 0
-IsNewVelocity velocities p = IsSlow p.1 × (under p.0 velocities ≡ None)
-
-velocity_on : (positions velocities : List (ℕ × List ℤ)) (p : Option (ℕ × List ℤ)) → IfSome (velocity_with positions velocities p) (IsNewVelocity velocities)
-velocity_on positions velocities None = tt
-velocity_on positions velocities (Some p) =
-    cond_on (IsNewVelocity velocities) (is_slow p.1 && is_some (under p.0 positions) && is_none (under p.0 velocities)) p (λ t.
-    let h = all_three (is_slow p.1) (is_some (under p.0 positions)) (is_none (under p.0 velocities)) t in
-    (IsSlow-from p.1 h.0, none_from_test (under p.0 velocities) h.2))
-
-velocity_in_on : (positions velocities : List (ℕ × List ℤ)) (words : List (List ℕ)) → IfSome (velocity_in positions velocities words) (IsNewVelocity velocities)
-velocity_in_on positions velocities words = velocity_on positions velocities (pair_in words)
-
-always_velocity : (positions velocities : List (ℕ × List ℤ)) → AreSlow velocities → Always (velocity_row positions velocities) AreSlow
-unfolding velocity_row
-always_velocity positions velocities h =
-    always_then (IsNewVelocity velocities) AreSlow (line (codes "% % % %") (velocity_in positions velocities)) _
-    (always_line (IsNewVelocity velocities) (codes "% % % %") (velocity_in positions velocities) (velocity_in_on positions velocities)) (λ q new.
-    always_gives AreSlow (put velocities q) (All-insert (λ p. IsSlow p.1) velocities q.0 q.1 new.1 new.0 h))
-
-always_velocities_given : (h : Header) (positions : List (ℕ × List ℤ)) → Always (velocities_given h positions) AreSlow
-unfolding velocities_given
-always_velocities_given h positions =
-    always_behind AreSlow (title (codes "Velocities")) _ (λ _.
-    always_times (λ j velocities. AreSlow velocities) (velocity_row positions) (λ j velocities slow. always_velocity positions velocities slow) h.count 0 [] (All-nil (λ p. IsSlow p.1)))
-
-velocities_on : (h : Header) (positions : List (ℕ × List ℤ)) (n : ℕ) (lines : List Line) → OnRead AreSlow (velocities_section h positions n lines)
-velocities_on h positions n [] = All-nil (λ p. IsSlow p.1)
-velocities_on h positions n (l ∷ lines) = (always_velocities_given h positions).holds n (l ∷ lines)
-
-always_velocities : (h : Header) (positions : List (ℕ × List ℤ)) → Always (velocities_section h positions) AreSlow
-always_velocities h positions = record { holds = velocities_on h positions }
-
--- the atoms
-pub record AreSoundAtoms (s : Sides) (atoms : List Atom) : Type 0 where
-  pub few : length atoms ≤ MAX_ATOMS
-  pub each : All (IsSoundAtom s) atoms
-  pub rising : Rises (map (λ a. a.id) atoms)
-
-IsSlow-zeros : IsSlow zeros
-IsSlow-zeros = (omega arith, omega arith, omega arith)
-
-IsSlow-unwrap_or : (v : Option (List ℤ)) → IfSome v IsSlow → IsSlow (unwrap_or v zeros)
-IsSlow-unwrap_or (Some v) h = h
-IsSlow-unwrap_or None h = IsSlow-zeros
-
-IsSoundAtom-atom_at : (s : Sides) (velocities : List (ℕ × List ℤ)) → AreSlow velocities → (p : ℕ × List ℤ) → IsPosition s p → IsSoundAtom s (atom_at velocities p)
-IsSoundAtom-atom_at s velocities slow p h = record {
-  inside = h.inside;
-  kind = refl;
-  least_id = h.least;
-  greatest_id = h.greatest;
-  speed = IsSlow-unwrap_or (under p.0 velocities) (All-lookup IsSlow (is_at (nat_cmp p.0)) velocities slow);
-  force = refl;
-  image = refl;
-}
-
-pub ids-atoms : (velocities positions : List (ℕ × List ℤ)) → map (λ a. a.id) (map (atom_at velocities) positions) ≡ keys_of positions
-ids-atoms velocities [] = refl
-ids-atoms velocities (p ∷ positions) = ap (λ (ids : List ℕ). p.0 ∷ ids) (ids-atoms velocities positions)
-
-pub Rises-keys_of : (entries : List (ℕ × List ℤ)) → IsStrictlySortedBy nat_cmp (keys_of entries) → Rises (keys_of entries)
-Rises-keys_of entries sorted i j below within = below_from_sorted (keys_of entries) i j 0 sorted below within
-
-atoms_sound : (s : Sides) (many : ℕ) (positions velocities : List (ℕ × List ℤ)) → many ≤ MAX_ATOMS → ArePositions s many positions → AreSlow velocities → AreSoundAtoms s (map (atom_at velocities) positions)
-atoms_sound s many positions velocities few p slow = record {
-  few = omega (arith, length-map positions (atom_at velocities), p.size);
-  each = All-map (IsSoundAtom s) (atom_at velocities) positions (All-weaker (IsPosition s) (λ q. IsSoundAtom s (atom_at velocities q)) (IsSoundAtom-atom_at s velocities slow) positions p.each);
-  rising = subst Rises (sym (ids-atoms velocities positions)) (Rises-keys_of positions p.rising);
-}
-
-no_atoms : (s : Sides) → AreSoundAtoms s []
-no_atoms s = record { few = omega arith; each = All-nil (IsSoundAtom s); rising = λ i j below within. absurd (omega arith) }
-
-always_atoms : (h : Header) → h.count ≤ MAX_ATOMS → Always (atoms_given h) (AreSoundAtoms h.sides)
-unfolding atoms_given
-always_atoms h few =
-    always_then (ArePositions h.sides h.count) (AreSoundAtoms h.sides) (positions_section h) _ (always_positions h) (λ positions p.
-    always_then AreSlow (AreSoundAtoms h.sides) (velocities_section h positions) _ (always_velocities h positions) (λ velocities slow.
-    always_gives (AreSoundAtoms h.sides) (map (atom_at velocities) positions) (atoms_sound h.sides h.count positions velocities few p slow)))
-
-always_sections : (n : ℕ) (h : Header) → h.count ≤ MAX_ATOMS → Always (sections n h) (AreSoundAtoms h.sides)
-always_sections zero h few = always_gives (AreSoundAtoms h.sides) [] (no_atoms h.sides)
-always_sections (suc k) h few = always_atoms h few
-
-pub AreSoundAtoms-sections : (dim : ℕ) (h : Header) (old new : Place) (atoms : List Atom) → IsSoundHeader dim h → Reads {X = List Atom} (sections h.count h) old (Ok atoms) new → AreSoundAtoms h.sides atoms
-AreSoundAtoms-sections dim h old new atoms sound r = read_on (AreSoundAtoms h.sides) _ _ r.value ((always_sections h.count h sound.few).holds old.number old.lines)
-
-pub IsSoundData-from : (dim : ℕ) (d : Data) (h : Header) (atoms : List Atom) → d.cell.sides ≡ h.sides → d.mass ≡ h.mass → d.atoms ≡ atoms → IsSoundHeader dim h → AreSoundAtoms h.sides atoms → IsSoundData d
-IsSoundData-from dim d h atoms s m a header atoms_sound = record {
-  sides = subst IsSound (sym s) header.sides.sound;
-  least_mass = subst (λ (v : ℤ). MIN_MASS ≤ℤ v) (sym m) header.mass.0;
-  greatest_mass = subst (λ (v : ℤ). v ≤ℤ MAX_MASS) (sym m) header.mass.1;
-  few = subst (λ (l : List Atom). length l ≤ MAX_ATOMS) (sym a) atoms_sound.few;
-  atoms = subst (λ (t : Sides). All (IsSoundAtom t) d.atoms) (sym s) (subst (λ (l : List Atom). All (IsSoundAtom h.sides) l) (sym a) atoms_sound.each);
-  rising = subst (λ (l : List Atom). Rises (map (λ b. b.id) l)) (sym a) atoms_sound.rising;
-}
+pub sound_read : (style : AtomStyle) (periodic : List Bool) (dim : ℕ) (bytes : List ℕ) (c : Contents) → data_of style periodic dim bytes ≡ Ok c → IsSoundSet style dim c
+sound_read style periodic dim bytes c e = subst (OnRead style dim) e (read_on style periodic dim bytes)

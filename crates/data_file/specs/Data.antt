@@ -1,212 +1,237 @@
--- A data file, line by line:
---
---   any text
---   (empty)
---   N atoms
---   1 atom types
---   XLO XHI xlo xhi
---   YLO YHI ylo yhi
---   ZLO ZHI zlo zhi
---   (empty)
---   Masses
---   (empty)
---   1 M
---
--- and then, for N above 0,
---
---   (empty)
---   Atoms
---   (empty)
---   ID 1 X Y Z          N times: each id once, in any order, inside the box
---
--- and then, which may be left out,
---
---   (empty)
---   Velocities
---   (empty)
---   ID VX VY VZ         N times: each atom once, in any order
---
--- Each line ends by a line feed, and its words are parted by one space.
-use Rattle.std.specs.Prelude.{◌≡◌, ◌<◌, ◌≤◌, ◌≤ℤ◌, ◌&&◌, Bool, false, cond, is_none, is_some, nat_le, ℕ, zero, suc, ℤ, pos, unsigned_abs, Option, Some, None, Result, List, [], ◌∷◌, length, map, codes, slice_index, slice_index_or, unwrap_or}
-use Rattle.std.specs.BTreeMap.{insert_entry, is_at}
-use Rattle.std.specs.List.{All}
-use Rattle.std.specs.Map.{lookup}
-use Rattle.std.specs.Ordering.{nat_cmp}
+-- What a data file says, line by line: the header, then sections, each a title and its rows. The first line is skipped, and so are lines
+-- without words. The first line that the format does not allow after the lines before it is told, with its first fault; where something is
+-- missing at the end, it is the last line plus 1.
+use Rattle.std.specs.Prelude.{◌≡◌, ◌==◌, ◌&&◌, ◌||◌, ◌+◌, ◌++◌, Bool, true, not, cond, nat_lt, ℕ, ℤ, Option, Some, None, Result, Ok, Err, List, [], ◌∷◌, length, map}
+use Rattle.box_geo.specs.declared.atoms.Angle.{Angle}
 use Rattle.box_geo.specs.declared.atoms.Atom.{Atom}
-use Rattle.box_geo.specs.declared.limits.TheConstants.{MAX_ATOMS, MAX_ID, MAX_MASS, MAX_SPEED, MIN_MASS}
-use Rattle.box_geo.specs.declared.sim_box.Axis.{Axis}
-use Rattle.box_geo.specs.declared.sim_box.Axis.TheVariants.{X, Y, Z}
-use Rattle.box_geo.specs.declared.sim_box.Extent.{Extent}
+use Rattle.box_geo.specs.declared.atoms.Bond.{Bond}
 use Rattle.box_geo.specs.declared.sim_box.Sides.{Sides}
-use Rattle.box_geo.specs.Sides.{extent_of, extent_refusal, x_of, y_of, z_of, IsInside, IsSound}
-use Rattle.box_geo.specs.Wrap.{holds}
-use Rattle.input_text.specs.Lines.{Line}
-use Rattle.input_text.specs.Readers.{Read, ends, gives, line, read_all, then, times}
-use Rattle.input_text.specs.Values.{Nothing, no_words, number_in, number_within, one, vector_of, whole_within}
-use Rattle.data_file.specs.declared.«data».Data.{Data}
-use Rattle.data_file.specs.declared.header.Header.{Header}
+use Rattle.box_geo.specs.declared.styles.AtomStyle.{AtomStyle}
+use Rattle.data_file.specs.declared.contents.AngleLine.{AngleLine}
+use Rattle.data_file.specs.declared.contents.BondLine.{BondLine}
+use Rattle.data_file.specs.declared.contents.DataSet.{DataSet}
+use Rattle.data_file.specs.declared.contents.PairLine.{PairLine}
+use Rattle.data_file.specs.declared.fault.DataFault.{DataFault}
+use Rattle.data_file.specs.declared.fault.DataFault.TheVariants as fault
+use Rattle.data_file.specs.declared.fault.DataRefusal.{DataRefusal}
+use Rattle.data_file.specs.declared.fault.DataRefusal.TheVariants as refusal
+use Rattle.data_file.specs.declared.fault.Stop.{Stop}
+use Rattle.data_file.specs.declared.fault.Stop.TheVariants as stop
+use Rattle.data_file.specs.declared.reading.Reading.{Reading}
+use Rattle.data_file.specs.declared.sections.Section.{Section}
+use Rattle.data_file.specs.declared.sections.Section.TheVariants.{Masses, PairCoeffs, BondCoeffs, AngleCoeffs, Atoms, Velocities, Bonds, Angles}
+use Rattle.data_file.specs.Fields.{made}
+use Rattle.data_file.specs.Header.{empty, given_or_zero, header_line, is_complete, sides_of}
+use Rattle.data_file.specs.Lines.{physical_lines}
+use Rattle.data_file.specs.Rows.{angle_line_row, angle_row, atom_row, bond_line_row, bond_row, mass_row, number_of, pair_row, unless, velocity_row}
+use Rattle.data_file.specs.Sections.{begin, comes_after_atoms, has_begun, has_style, none_begun, rows_of, section_of}
+use Rattle.data_file.specs.Tables.{add, masses_of, put, with_velocity}
+use Rattle.data_file.specs.Words.{without_comment, words_of}
+
+-- nothing is read yet of a file for atoms of a style in a box of so many dimensions, periodic along these axes
+abbrev pub start : AtomStyle → List Bool → ℕ → Reading
+start style periodic dim = record {
+  style = style;
+  periodic = periodic;
+  dim = dim;
+  header = empty;
+  begun = none_begun;
+  section = None;
+  met = [];
+  masses = [];
+  pair = [];
+  bond = [];
+  angle = [];
+  atoms = [];
+  velocities = [];
+  bonds = [];
+  bonds_of = [];
+  angles = [];
+  angles_of = [];
+}
+
+-- one bond or angle more of an atom than it had
+abbrev pub one_more : List (ℕ × ℕ) → ℕ → List (ℕ × ℕ) → List (ℕ × ℕ)
+one_more had id numbers = put numbers id (number_of id had + 1)
+
+abbrev pub with_mass : Reading → ℕ × ℤ → Reading
+with_mass s r = record s { masses = put s.masses r.0 r.1; met = add s.met r.0 }
+
+abbrev pub with_pair : Reading → PairLine → Reading
+with_pair s p = record s { pair = s.pair ++ p ∷ []; met = add s.met p.kind }
+
+abbrev pub with_bond_line : Reading → BondLine → Reading
+with_bond_line s b = record s { bond = s.bond ++ b ∷ []; met = add s.met b.kind }
+
+abbrev pub with_angle_line : Reading → AngleLine → Reading
+with_angle_line s a = record s { angle = s.angle ++ a ∷ []; met = add s.met a.kind }
+
+abbrev pub with_atom : Reading → Atom → Reading
+with_atom s a = record s { atoms = put s.atoms a.id a; met = add s.met a.id }
+
+abbrev pub with_vector : Reading → ℕ × List ℤ → Reading
+with_vector s r = record s { velocities = put s.velocities r.0 r.1; met = add s.met r.0 }
+
+abbrev pub with_bond : Reading → ℕ × Bond → Reading
+with_bond s r = record s { bonds = s.bonds ++ r.1 ∷ []; bonds_of = one_more s.bonds_of r.1.b (one_more s.bonds_of r.1.a s.bonds_of); met = add s.met r.0 }
+
+abbrev pub with_angle : Reading → ℕ × Angle → Reading
+with_angle s r = record s { angles = s.angles ++ r.1 ∷ []; angles_of = one_more s.angles_of r.1.c (one_more s.angles_of r.1.b (one_more s.angles_of r.1.a s.angles_of)); met = add s.met r.0 }
+
+-- how many types of atoms, bonds and angles there are
+abbrev pub atom_types : Reading → ℕ
+atom_types s = given_or_zero s.header.atom_types
+
+abbrev pub bond_types : Reading → ℕ
+bond_types s = given_or_zero s.header.bond_types
+
+abbrev pub angle_types : Reading → ℕ
+angle_types s = given_or_zero s.header.angle_types
+
+-- a row of an atom in a box
+abbrev pub atom_row_in : Reading → Option Sides → List (List ℕ) → Result Atom DataFault
+atom_row_in s None words = Err fault.Missing
+atom_row_in s (Some sides) words = atom_row s.style (atom_types s) sides s.met words
+
+-- a row of a section
+abbrev pub row : Section → Reading → List (List ℕ) → Result Reading DataFault
+row Masses s words = made (with_mass s) (mass_row (atom_types s) s.met words)
+row PairCoeffs s words = made (with_pair s) (pair_row (atom_types s) s.met words)
+row BondCoeffs s words = made (with_bond_line s) (bond_line_row (bond_types s) s.met words)
+row AngleCoeffs s words = made (with_angle_line s) (angle_line_row (angle_types s) s.met words)
+row Atoms s words = made (with_atom s) (atom_row_in s (sides_of s.dim s.header) words)
+row Velocities s words = made (with_vector s) (velocity_row s.met s.atoms words)
+row Bonds s words = made (with_bond s) (bond_row (bond_types s) s.met s.atoms s.bonds_of words)
+row Angles s words = made (with_angle s) (angle_row (angle_types s) s.met s.atoms s.angles_of words)
+
+-- the section that is open has all its rows
+abbrev pub is_full : Option Section → Reading → Bool
+is_full None s = true
+is_full (Some section) s = length s.met == rows_of section s.header
+
+-- what a title needs: the lines of the header, the rows of the section before it, and the atoms where it comes after them
+abbrev pub is_ready : Section → Reading → Bool
+is_ready section s = is_complete s.header && is_full s.section s && (not (comes_after_atoms section) || s.begun.atoms)
+
+-- the title of a section
+unfoldable pub titled : Section → Reading → Result Reading DataFault
+titled section s =
+    unless (has_begun section s.begun) fault.Twice (unless (not (has_style section s.style)) fault.Style (unless (not (is_ready section s)) fault.Missing
+    (Ok record s { begun = begin section s.begun; section = Some section; met = [] })))
+
+-- a line that is no title, in the header or in a section
+abbrev pub within : Option Section → Reading → List (List ℕ) → Result Reading DataFault
+within None s words = made (λ h. record s { header = h }) (header_line s.periodic s.header words)
+within (Some section) s words = unless (not (nat_lt (length s.met) (rows_of section s.header))) fault.NotALine (row section s words)
+
+abbrev pub with_title : Option Section → Reading → List (List ℕ) → Result Reading DataFault
+with_title (Some section) s words = titled section s
+with_title None s words = within s.section s words
+
+-- what is read with a line more
+unfoldable pub judge : Reading → List (List ℕ) → Result Reading DataFault
+judge s words = cond (length words == 0) (Ok s) (with_title (section_of words) s words)
 
 -- what a data file says
 pub record Contents : Type 0 where
   pub sides : Sides
-  pub mass : ℤ
+  pub kinds : List ℕ  -- the numbers of atom, bond and angle types
+  pub mass : List ℤ  -- of each atom type, 0 where there is none
   pub atoms : List Atom  -- in rising order of id
+  pub bonds : List Bond
+  pub angles : List Angle
+  pub pair : List PairLine
+  pub bond : List BondLine
+  pub angle : List AngleLine
 
--- how many atoms there are: the lines up to that of the one atom type
-unfoldable pub count : ℕ → List Line → Result (Read ℕ) ℕ
-count =
-    then (line (codes "*") no_words) (λ _.
-    then (line [] no_words) (λ _.
-    then (line (codes "% atoms") (one (whole_within 0 MAX_ATOMS))) (λ n.
-    then (line (codes "1 atom types") no_words) (λ _.
-    gives n))))
+abbrev pub contents_with : Reading → Option Sides → Result Contents DataFault
+contents_with s None = Err fault.Missing
+contents_with s (Some sides) = Ok record {
+  sides = sides;
+  kinds = atom_types s ∷ bond_types s ∷ angle_types s ∷ [];
+  mass = masses_of (atom_types s) s.masses;
+  atoms = map (with_velocity s.velocities) s.atoms;
+  bonds = s.bonds;
+  angles = s.angles;
+  pair = s.pair;
+  bond = s.bond;
+  angle = s.angle;
+}
 
--- an axis of two bounds that make one
-abbrev pub extent_with : Axis → Bool → Option ℤ → Option ℤ → Option Extent
-extent_with axis periodic (Some lo) (Some hi) = cond (is_none (extent_refusal axis lo hi)) (Some (extent_of lo hi periodic)) None
-extent_with axis periodic lo hi = None
+-- a section that is needed where its count is above 0
+abbrev pub is_there : Section → Reading → Bool
+is_there section s = has_begun section s.begun || (rows_of section s.header == 0)
 
-abbrev pub extent_in : Axis → Bool → List (List ℕ) → Option Extent
-extent_in axis periodic (lo ∷ hi ∷ []) = extent_with axis periodic (number_in lo) (number_in hi)
-extent_in axis periodic words = None
+-- whether nothing is missing at the end
+abbrev pub is_whole : Reading → Bool
+is_whole s = is_complete s.header && is_full s.section s && is_there Atoms s && is_there Bonds s && is_there Angles s
 
--- the sides of the box: three lines; how many dimensions it has and which axis is periodic the script says
-abbrev pub sides_with : ℕ → Extent → Extent → Extent → Sides
-sides_with dim x y z = record { x = x; y = y; z = z; dim = dim }
+-- the contents at the end of the file
+unfoldable pub finished : Reading → Result Contents DataFault
+finished s = unless (not (is_whole s)) fault.Missing (contents_with s (sides_of s.dim s.header))
 
-unfoldable pub sides : ℕ → List Bool → ℕ → List Line → Result (Read Sides) ℕ
-sides dim periodic =
-    then (line (codes "% % xlo xhi") (extent_in X (slice_index_or periodic 0 false))) (λ x.
-    then (line (codes "% % ylo yhi") (extent_in Y (slice_index_or periodic 1 false))) (λ y.
-    then (line (codes "% % zlo zhi") (extent_in Z (slice_index_or periodic 2 false))) (λ z.
-    gives (sides_with dim x y z))))
+-- a fault with the number of its line
+abbrev pub at_line : {A : Type 0} → ℕ → Result A DataFault → Result A (ℕ × DataFault)
+at_line n (Ok a) = Ok a
+at_line n (Err why) = Err (n, why)
 
--- the title of a section between two empty lines
-unfoldable pub title : List ℕ → ℕ → List Line → Result (Read Nothing) ℕ
-title name = then (line [] no_words) (λ _. then (line name no_words) (λ _. line [] no_words))
+abbrev pub words_in : List ℕ → List (List ℕ)
+words_in line = words_of (without_comment line)
 
--- the mass of the one atom type
-unfoldable pub mass : ℕ → List Line → Result (Read ℤ) ℕ
-mass = then (title (codes "Masses")) (λ _. line (codes "1 %") (one (number_within MIN_MASS MAX_MASS)))
+-- a line of a number, of which the first is skipped
+abbrev pub judge_line : ℕ → Reading → List ℕ → Result Reading DataFault
+judge_line n s line = cond (n == 1) (Ok s) (judge s (words_in line))
 
--- all of this
-unfoldable pub header : ℕ → List Bool → ℕ → List Line → Result (Read Header) ℕ
-header dim periodic =
-    then count (λ n.
-    then (sides dim periodic) (λ s.
-    then mass (λ m.
-    gives record { count = n; sides = s; mass = m })))
+abbrev pub goes_on : ℕ → (Reading → Result Contents (ℕ × DataFault)) → Result Reading DataFault → Result Contents (ℕ × DataFault)
+goes_on n next (Ok s) = next s
+goes_on n next (Err why) = Err (n, why)
 
--- what stands under an id
-abbrev pub under : ℕ → List (ℕ × List ℤ) → Option (List ℤ)
-under id entries = lookup (is_at (nat_cmp id)) entries
+-- what lines say from a number on, behind what is read
+abbrev pub read_lines : List (List ℕ) → ℕ → Reading → Result Contents (ℕ × DataFault)
+read_lines [] n s = at_line n (finished s)
+read_lines (line ∷ lines) n s = goes_on n (read_lines lines (n + 1)) (judge_line n s line)
 
--- one more entry, at its place in the rising order of id
-abbrev pub put : List (ℕ × List ℤ) → ℕ × List ℤ → List (ℕ × List ℤ)
-put entries row = insert_entry nat_cmp entries row.0 row.1
+-- what the lines of a text say behind what is read
+abbrev pub read_text : Reading → List (List ℕ) → Result Contents (ℕ × DataFault)
+read_text s lines = read_lines lines 1 s
 
-abbrev pub is_inside : Sides → List ℤ → Bool
-is_inside s p = holds s.x (x_of p) && holds s.y (y_of p) && holds s.z (z_of p)
+-- what a data file says for atoms of a style in a box of so many dimensions, periodic along these axes
+unfoldable pub data_of : AtomStyle → List Bool → ℕ → List ℕ → Result Contents (ℕ × DataFault)
+data_of style periodic dim bytes = read_text (start style periodic dim) (physical_lines bytes)
 
-abbrev pub is_slow : List ℤ → Bool
-is_slow v = nat_le (unsigned_abs (x_of v)) (unsigned_abs MAX_SPEED) && nat_le (unsigned_abs (y_of v)) (unsigned_abs MAX_SPEED) && nat_le (unsigned_abs (z_of v)) (unsigned_abs MAX_SPEED)
+-- the contents of a data set
+abbrev pub contents_of : DataSet → Contents
+contents_of d = record {
+  sides = d.cell.sides;
+  kinds = d.kinds;
+  mass = d.mass;
+  atoms = d.atoms;
+  bonds = d.bonds;
+  angles = d.angles;
+  pair = d.pair;
+  bond = d.bond;
+  angle = d.angle;
+}
 
--- an id and a vector
-abbrev pub pair_of : Option ℕ → Option (List ℤ) → Option (ℕ × List ℤ)
-pair_of (Some id) (Some v) = Some (id, v)
-pair_of id v = None
+-- a call that changes what is read takes a line as it is judged, or wants memory
+abbrev pub Takes : {U : Type 0} → Result Reading DataFault → Result U Stop → Reading → Type 0
+Takes meant (Ok u) new = meant ≡ Ok new
+Takes meant (Err (stop.Fault why)) new = meant ≡ Err why
+Takes meant (Err stop.NoMemory) new = Unit {0}
 
-abbrev pub pair_in : List (List ℕ) → Option (ℕ × List ℤ)
-pair_in (id ∷ x ∷ y ∷ z ∷ []) = pair_of (whole_within 1 MAX_ID id) (vector_of (number_in x) (number_in y) (number_in z))
-pair_in words = None
+-- the contents at the end are what is meant
+abbrev pub Ends : Result Contents DataFault → Result DataSet Stop → Type 0
+Ends meant (Ok d) = meant ≡ Ok (contents_of d)
+Ends meant (Err (stop.Fault why)) = meant ≡ Err why
+Ends meant (Err stop.NoMemory) = Unit {0}
 
--- a position inside the box of an id that has none yet
-abbrev pub position_with : Sides → List (ℕ × List ℤ) → Option (ℕ × List ℤ) → Option (ℕ × List ℤ)
-position_with s positions (Some p) = cond (is_inside s p.1 && is_none (under p.0 positions)) (Some p) None
-position_with s positions None = None
+-- the refusal of a line
+abbrev pub refusal_of : ℕ → Stop → DataRefusal
+refusal_of n (stop.Fault why) = refusal.Line n why
+refusal_of n stop.NoMemory = refusal.NoMemory
 
-abbrev pub position_in : Sides → List (ℕ × List ℤ) → List (List ℕ) → Option (ℕ × List ℤ)
-position_in s positions words = position_with s positions (pair_in words)
-
--- a velocity within the limit of an atom that has none yet
-abbrev pub velocity_with : List (ℕ × List ℤ) → List (ℕ × List ℤ) → Option (ℕ × List ℤ) → Option (ℕ × List ℤ)
-velocity_with positions velocities (Some p) = cond (is_slow p.1 && is_some (under p.0 positions) && is_none (under p.0 velocities)) (Some p) None
-velocity_with positions velocities None = None
-
-abbrev pub velocity_in : List (ℕ × List ℤ) → List (ℕ × List ℤ) → List (List ℕ) → Option (ℕ × List ℤ)
-velocity_in positions velocities words = velocity_with positions velocities (pair_in words)
-
--- a row of a section goes to those before it
-unfoldable pub position_row : Sides → List (ℕ × List ℤ) → ℕ → List Line → Result (Read (List (ℕ × List ℤ))) ℕ
-position_row s positions = then (line (codes "% 1 % % %") (position_in s positions)) (λ row. gives (put positions row))
-
-unfoldable pub velocity_row : List (ℕ × List ℤ) → List (ℕ × List ℤ) → ℕ → List Line → Result (Read (List (ℕ × List ℤ))) ℕ
-velocity_row positions velocities = then (line (codes "% % % %") (velocity_in positions velocities)) (λ row. gives (put velocities row))
-
--- the section of the positions
-unfoldable pub positions_section : Header → ℕ → List Line → Result (Read (List (ℕ × List ℤ))) ℕ
-positions_section h = then (title (codes "Atoms")) (λ _. times h.count (position_row h.sides) [])
-
--- the section of the velocities, none where no line is left
-unfoldable pub velocities_given : Header → List (ℕ × List ℤ) → ℕ → List Line → Result (Read (List (ℕ × List ℤ))) ℕ
-velocities_given h positions = then (title (codes "Velocities")) (λ _. times h.count (velocity_row positions) [])
-
-abbrev pub velocities_section : Header → List (ℕ × List ℤ) → ℕ → List Line → Result (Read (List (ℕ × List ℤ))) ℕ
-velocities_section h positions n [] = gives [] n []
-velocities_section h positions n (l ∷ lines) = velocities_given h positions n (l ∷ lines)
-
-abbrev pub zeros : List ℤ
-zeros = pos 0 ∷ pos 0 ∷ pos 0 ∷ []
-
--- an atom of a position and the velocity under its id, 0 without one
-abbrev pub atom_at : List (ℕ × List ℤ) → ℕ × List ℤ → Atom
-atom_at velocities p = record { id = p.0; mol = 0; kind = 1; x = p.1; v = unwrap_or (under p.0 velocities) zeros; f = zeros; image = zeros }
-
--- the atoms of both sections
-unfoldable pub atoms_given : Header → ℕ → List Line → Result (Read (List Atom)) ℕ
-atoms_given h =
-    then (positions_section h) (λ positions.
-    then (velocities_section h positions) (λ velocities.
-    gives (map (atom_at velocities) positions)))
-
--- the sections of atoms, without which there are none
-abbrev pub sections : ℕ → Header → ℕ → List Line → Result (Read (List Atom)) ℕ
-sections zero h = gives []
-sections (suc k) h = atoms_given h
-
-unfoldable pub data_file : ℕ → List Bool → ℕ → List Line → Result (Read Contents) ℕ
-data_file dim periodic =
-    then (header dim periodic) (λ h.
-    then (sections h.count h) (λ atoms.
-    ends record { sides = h.sides; mass = h.mass; atoms = atoms }))
-
--- what a text says as a data file, or the line that is at fault
-abbrev pub contents_of : ℕ → List Bool → List ℕ → Result Contents ℕ
-contents_of dim periodic text = read_all (data_file dim periodic) text
-
--- ids stand in strictly rising order
-abbrev pub Rises : List ℕ → Type 0
-Rises ids = (i j : ℕ) → i < j → j < length ids → slice_index ids i < slice_index ids j
-
--- each component of a velocity is within the limit
-abbrev pub IsSlow : List ℤ → Type 0
-IsSlow v = (unsigned_abs (x_of v) ≤ unsigned_abs MAX_SPEED) × (unsigned_abs (y_of v) ≤ unsigned_abs MAX_SPEED) × (unsigned_abs (z_of v) ≤ unsigned_abs MAX_SPEED)
-
--- an atom inside the box and within the limits, of the one type, with no force and no edge gone beyond
-pub record IsSoundAtom (s : Sides) (a : Atom) : Type 0 where
-  pub inside : IsInside s a.x
-  pub kind : a.kind ≡ 1
-  pub least_id : 1 ≤ a.id
-  pub greatest_id : a.id ≤ MAX_ID
-  pub speed : IsSlow a.v
-  pub force : a.f ≡ zeros
-  pub image : a.image ≡ zeros
-
--- data within the limits: a box, a mass, and atoms in strictly rising order of id
-pub record IsSoundData (d : Data) : Type 0 where
-  pub sides : IsSound d.cell.sides
-  pub least_mass : MIN_MASS ≤ℤ d.mass
-  pub greatest_mass : d.mass ≤ℤ MAX_MASS
-  pub few : length d.atoms ≤ MAX_ATOMS
-  pub atoms : All (IsSoundAtom d.cell.sides) d.atoms
-  pub rising : Rises (map (λ a. a.id) d.atoms)
+-- a text reads as what is meant, or memory is wanted
+abbrev pub ReadsText : Result Contents (ℕ × DataFault) → Result DataSet DataRefusal → Type 0
+ReadsText meant (Ok d) = meant ≡ Ok (contents_of d)
+ReadsText meant (Err (refusal.Line n why)) = meant ≡ Err (n, why)
+ReadsText meant (Err refusal.NoMemory) = Unit {0}

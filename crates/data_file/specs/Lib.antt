@@ -1,2 +1,9 @@
 pub mod Data
-pub mod Written
+pub mod Fields
+pub mod Header
+pub mod Lines
+pub mod Rows
+pub mod Sections
+pub mod Sound
+pub mod Tables
+pub mod Words

@@ -1,144 +1,226 @@
-//! The header of a data file: how many atoms there are, the sides of the box, the mass.
-ghost use Rattle.std.specs.Prelude.{◌≡◌, option_and_then, codes};
-ghost use Rattle.input_text.specs.Readers.{line, Reads};
-ghost use Rattle.data_file.specs.Data.{count, extent_in, extent_with, header, mass, sides, title};
-ghost use Rattle.input_text.specs.Values.{number_within, one, whole_within};
+//! The header of a data file.
+ghost use Rattle.std.specs.Prelude.{◌≡◌, ◌≤◌, is_some, Some, None, IfOk, MatchOption};
+ghost use Rattle.box_geo.specs.Sides.{extent_of, extent_refusal};
+ghost use Rattle.data_file.specs.Header.{empty, extra_line, fixed_line, header_line, is_complete, number_line, side_line, side_with, sides_of, Makes};
+ghost use Rattle.data_file.specs.Words.{words_of};
 
-use box_geo::limits::{MAX_ATOMS, MAX_MASS, MIN_MASS};
-use box_geo::{Axis, Extent, Sides};
-use fx_num::{Seq, Text};
-use input_text::{Lines, Stop, number_in, number_within, whole_within};
-use std::alloc::Global;
+use crate::fault::DataFault;
+use crate::fields::{both, decimal_field, whole_field};
+use crate::keywords::{Keyword, keyword_of};
+use crate::side::Side;
+use crate::words::{count_words, word_at};
+use box_geo::limits::{MAX_ATOMS, MAX_BONDS, MAX_BOUND, MAX_KINDS};
+use box_geo::{Axis, Extent, Sides, SimBox};
 
-/// What the header says.
-#[derive(Clone, Copy, Debug)]
+/// What the header lines so far say. A number is there where its line was.
+#[derive(Drop)]
 pub(crate) struct Header {
-    /// How many atoms there are.
-    pub count: u32,
-    /// The sides of the box.
-    pub sides: Sides,
-    /// The mass of the one atom type, in units.
-    pub mass: i64,
+    pub(crate) atoms: Option<u32>,
+    pub(crate) bonds: Option<u32>,
+    pub(crate) angles: Option<u32>,
+    pub(crate) atom_types: Option<u8>,
+    pub(crate) bond_types: Option<u8>,
+    pub(crate) angle_types: Option<u8>,
+    pub(crate) x: Option<Side>,
+    pub(crate) y: Option<Side>,
+    pub(crate) z: Option<Side>,
+    pub(crate) dihedrals: bool,
+    pub(crate) impropers: bool,
+    pub(crate) dihedral_types: bool,
+    pub(crate) improper_types: bool,
+    pub(crate) extra_bond: bool,
+    pub(crate) extra_angle: bool,
+    pub(crate) extra_special: bool,
 }
 
-/// An axis of two bounds that make one.
-fn extent_with(axis: Axis, periodic: bool, lo: Option<i64>, hi: Option<i64>) -> Option<Extent>
-    ensures { result ≡ extent_with axis periodic lo hi }
+/// A number with so many words on its line, which is given at most once.
+#[tactic(auto, unfolding(crate::specs::Header::number_line))]
+fn number_line(
+    line: &[u8],
+    count: usize,
+    given: bool,
+    low: u64,
+    high: u64,
+) -> Result<u64, DataFault>
+    ensures is { result ≡ number_line count given low high (words_of line.now) }
+    ensures within { IfOk result (λ n. n ≤ high) }
 {
-    Extent::new(axis, lo?, hi?, periodic).ok()
+    if count_words(line) != count {
+        return Err(DataFault::Count);
+    }
+    let number = whole_field(word_at(line, 0), low, high)?;
+    if given {
+        return Err(DataFault::Twice);
+    }
+    Ok(number)
 }
 
-/// The axis of the words of its line.
-fn extent_in(axis: Axis, periodic: bool, words: Option<Seq<Text>>) -> Option<Extent>
-    ensures { result ≡ option_and_then (extent_in axis periodic) words }
+/// A number of atoms, bonds or angles.
+fn count_line(line: &[u8], given: Option<u32>, high: u32) -> Result<u32, DataFault>
+    ensures { result ≡ number_line 2 (is_some given) 0 high (words_of line.now) }
 {
-    match words?.as_slice() {
-        [lo, hi] => extent_with(axis, periodic, number_in(lo), number_in(hi)),
-        _ => None,
+    Ok(number_line(line, 2, given.is_some(), 0, u64::from(high))? as u32)
+}
+
+/// A number of types.
+fn types_line(line: &[u8], given: Option<u8>, low: u64) -> Result<u8, DataFault>
+    ensures { result ≡ number_line 3 (is_some given) low MAX_KINDS (words_of line.now) }
+{
+    Ok(number_line(line, 3, given.is_some(), low, u64::from(MAX_KINDS))? as u8)
+}
+
+/// The extent of two bounds along an axis.
+fn extent_of(axis: Axis, bounds: (i64, i64), periodic: bool) -> Result<Side, DataFault>
+    ensures { result ≡ side_with (extent_refusal axis bounds.0 bounds.1) (extent_of bounds.0 bounds.1 periodic) }
+{
+    match Extent::new(axis, bounds.0, bounds.1, periodic) {
+        Ok(extent) => Ok(Side::of(extent)),
+        Err(_) => Err(DataFault::Limit),
     }
 }
 
-/// Reads the line of an axis.
-fn read_extent(
-    alloc: Global,
-    lines: &mut Lines,
-    form: &[u8],
-    axis: Axis,
-    periodic: bool,
-) -> Result<Extent, Stop>
-    ensures { Reads (line form.now (extent_in axis periodic)) lines.old result lines.new }
+/// The bounds of an axis.
+#[tactic(auto, unfolding(crate::specs::Header::side_line))]
+fn side_line(line: &[u8], axis: Axis, given: bool, periodic: bool) -> Result<Side, DataFault>
+    ensures { result ≡ side_line axis given periodic (words_of line.now) }
 {
-    let words = lines.words(alloc, form)?;
-    lines.take(extent_in(axis, periodic, words))
-}
-
-/// Reads the sides of the box.
-fn read_sides(
-    alloc: Global,
-    lines: &mut Lines,
-    dim: u8,
-    periodic: &[bool; 3],
-) -> Result<Sides, Stop>
-    ensures { Reads (sides dim periodic.now) lines.old result lines.new }
-{
-    let x = read_extent(alloc, lines, b"% % xlo xhi", Axis::X, periodic[0])?;
-    let y = read_extent(alloc, lines, b"% % ylo yhi", Axis::Y, periodic[1])?;
-    let z = read_extent(alloc, lines, b"% % zlo zhi", Axis::Z, periodic[2])?;
-    Ok(Sides { x, y, z, dim })
-}
-
-/// The number of atoms of the words of its line.
-fn count_in(words: Option<Seq<Text>>) -> Option<u32>
-    ensures { result ≡ option_and_then (one (whole_within 0 MAX_ATOMS)) words }
-{
-    match words?.as_slice() {
-        [word] => Some(whole_within(0, MAX_ATOMS as u64, word)? as u32),
-        _ => None,
+    if count_words(line) != 4 {
+        return Err(DataFault::Count);
     }
-}
-
-/// Reads the line of the number of atoms.
-fn read_count_line(alloc: Global, lines: &mut Lines) -> Result<u32, Stop>
-    ensures { Reads (line (codes "% atoms") (one (whole_within 0 MAX_ATOMS))) lines.old result lines.new }
-{
-    let words = lines.words(alloc, b"% atoms")?;
-    lines.take(count_in(words))
-}
-
-/// Reads the lines up to that of the one atom type: how many atoms there are.
-fn read_count(alloc: Global, lines: &mut Lines) -> Result<u32, Stop>
-    ensures { Reads count lines.old result lines.new }
-{
-    lines.fixed(alloc, b"*")?;
-    lines.fixed(alloc, b"")?;
-    let count = read_count_line(alloc, lines)?;
-    lines.fixed(alloc, b"1 atom types")?;
-    Ok(count)
-}
-
-/// Reads the title of a section between two empty lines.
-pub(crate) fn read_title(alloc: Global, lines: &mut Lines, name: &[u8]) -> Result<(), Stop>
-    ensures { Reads (title name.now) lines.old result lines.new }
-{
-    lines.fixed(alloc, b"")?;
-    lines.fixed(alloc, name)?;
-    lines.fixed(alloc, b"")
-}
-
-/// The mass of the words of its line.
-fn mass_in(words: Option<Seq<Text>>) -> Option<i64>
-    ensures { result ≡ option_and_then (one (number_within MIN_MASS MAX_MASS)) words }
-{
-    match words?.as_slice() {
-        [word] => number_within(MIN_MASS, MAX_MASS, word),
-        _ => None,
+    let low = decimal_field(word_at(line, 0), -MAX_BOUND, MAX_BOUND);
+    let high = decimal_field(word_at(line, 1), -MAX_BOUND, MAX_BOUND);
+    let side = extent_of(axis, both(low, high)?, periodic)?;
+    if given {
+        return Err(DataFault::Twice);
     }
+    Ok(side)
 }
 
-/// Reads the section of the mass.
-fn read_mass(alloc: Global, lines: &mut Lines) -> Result<i64, Stop>
-    ensures { Reads mass lines.old result lines.new }
+/// A line of fixed words, which is given at most once.
+#[tactic(auto, unfolding(crate::specs::Header::fixed_line))]
+fn fixed_line(line: &[u8], count: usize, given: bool) -> Result<bool, DataFault>
+    ensures { result ≡ fixed_line count given (words_of line.now) }
 {
-    read_title(alloc, lines, b"Masses")?;
-    let words = lines.words(alloc, b"1 %")?;
-    lines.take(mass_in(words))
+    if count_words(line) != count {
+        return Err(DataFault::Count);
+    }
+    if given {
+        return Err(DataFault::Twice);
+    }
+    Ok(true)
 }
 
-/// Reads the header of the data file of a box of so many dimensions.
-///
-/// # Errors
-///
-/// `Line` with the first line that is at fault, and `NoMemory`.
-pub(crate) fn read_header(
-    alloc: Global,
-    lines: &mut Lines,
-    dim: u8,
-    periodic: &[bool; 3],
-) -> Result<Header, Stop>
-    ensures { Reads (header dim periodic.now) lines.old result lines.new }
+/// A line of a whole number without effect, which is given at most once.
+fn extra_line(line: &[u8], given: bool) -> Result<u64, DataFault>
+    ensures { result ≡ extra_line given (words_of line.now) }
 {
-    let count = read_count(alloc, lines)?;
-    let sides = read_sides(alloc, lines, dim, periodic)?;
-    let mass = read_mass(alloc, lines)?;
-    Ok(Header { count, sides, mass })
+    number_line(line, 5, given, 0, u64::MAX)
+}
+
+impl Header {
+    /// Nothing is said.
+    pub(crate) fn empty() -> Header
+        ensures { result ≡ empty }
+    {
+        Header {
+            atoms: None,
+            bonds: None,
+            angles: None,
+            atom_types: None,
+            bond_types: None,
+            angle_types: None,
+            x: None,
+            y: None,
+            z: None,
+            dihedrals: false,
+            impropers: false,
+            dihedral_types: false,
+            improper_types: false,
+            extra_bond: false,
+            extra_angle: false,
+            extra_special: false,
+        }
+    }
+
+    /// Takes a header line of a box that is periodic along these axes. A refusal says nothing of what
+    /// stands then.
+    #[tactic(auto, unfolding(crate::specs::Header::header_line))]
+    pub(crate) fn take(&mut self, line: &[u8], periodic: &[bool; 3]) -> Result<(), DataFault>
+        ensures { Makes (header_line periodic.now self.old (words_of line.now)) result self.new }
+    {
+        let Some(keyword) = keyword_of(line) else {
+            return Err(DataFault::NotALine);
+        };
+        match keyword {
+            Keyword::Atoms => self.atoms = Some(count_line(line, self.atoms, MAX_ATOMS)?),
+            Keyword::Bonds => self.bonds = Some(count_line(line, self.bonds, MAX_BONDS)?),
+            Keyword::Angles => self.angles = Some(count_line(line, self.angles, MAX_BONDS)?),
+            Keyword::AtomTypes => self.atom_types = Some(types_line(line, self.atom_types, 1)?),
+            Keyword::BondTypes => self.bond_types = Some(types_line(line, self.bond_types, 0)?),
+            Keyword::AngleTypes => self.angle_types = Some(types_line(line, self.angle_types, 0)?),
+            Keyword::SideX => self.x = Some(side_line(
+                line,
+                Axis::X,
+                self.x.is_some(),
+                periodic[0],
+            )?),
+            Keyword::SideY => self.y = Some(side_line(
+                line,
+                Axis::Y,
+                self.y.is_some(),
+                periodic[1],
+            )?),
+            Keyword::SideZ => self.z = Some(side_line(
+                line,
+                Axis::Z,
+                self.z.is_some(),
+                periodic[2],
+            )?),
+            Keyword::Dihedrals => self.dihedrals = fixed_line(line, 2, self.dihedrals)?,
+            Keyword::Impropers => self.impropers = fixed_line(line, 2, self.impropers)?,
+            Keyword::DihedralTypes => {
+                self.dihedral_types = fixed_line(line, 3, self.dihedral_types)?;
+            }
+            Keyword::ImproperTypes => {
+                self.improper_types = fixed_line(line, 3, self.improper_types)?;
+            }
+            Keyword::ExtraBond => {
+                let _ = extra_line(line, self.extra_bond)?;
+                self.extra_bond = true;
+            }
+            Keyword::ExtraAngle => {
+                let _ = extra_line(line, self.extra_angle)?;
+                self.extra_angle = true;
+            }
+            Keyword::ExtraSpecial => {
+                let _ = extra_line(line, self.extra_special)?;
+                self.extra_special = true;
+            }
+        }
+        Ok(())
+    }
+
+    /// Whether the lines that are needed are there.
+    pub(crate) fn is_complete(&self) -> bool
+        ensures { result ≡ is_complete self.now }
+    {
+        self.x.is_some() && self.y.is_some() && self.z.is_some() && self.atom_types.is_some()
+    }
+
+    /// The box, where its sides are there.
+    #[tactic(auto, unfolding(crate::specs::Header::sides_of))]
+    pub(crate) fn cell(&self, dim: u8) -> Option<SimBox>
+        requires { (2 ≤ dim) × (dim ≤ 3) }
+        ensures { MatchOption result (sides_of dim self.now ≡ None) (λ cell. sides_of dim self.now ≡ Some cell.sides) }
+    {
+        let (Some(x), Some(y), Some(z)) = (&self.x, &self.y, &self.z) else {
+            return None;
+        };
+        Some(SimBox::from_sides(Sides {
+            x: x.extent(),
+            y: y.extent(),
+            z: z.extent(),
+            dim,
+        }))
+    }
 }

@@ -1,14 +1,22 @@
-//! Data files: the box, the mass of the one atom type, the atoms with their positions and velocities.
+//! Data files: the box, the atoms and what binds them, masses and coefficients, as lines of text.
 #![tactic(auto)]
 
-mod by_id;
-mod data;
+mod atom_rows;
+mod bond_rows;
+mod contents;
+mod fault;
+mod fields;
 mod header;
-mod laws;
+mod keywords;
+mod lines;
 mod read;
+mod reading;
 mod rows;
 mod sections;
+mod side;
+mod tables;
+mod words;
 
-pub use data::Data;
-pub use laws::written_files_are_read;
+pub use contents::{AngleLine, BondLine, DataSet, PairLine};
+pub use fault::{DataFault, DataRefusal};
 pub use read::read_data;

@@ -1,141 +1,143 @@
-//! The rows of the sections of atoms.
-ghost use Rattle.std.specs.Prelude.{◌≡◌, option_and_then, codes};
-ghost use Rattle.box_geo.specs.Wrap.{holds};
-ghost use Rattle.input_text.specs.Readers.{line, Reads};
-ghost use Rattle.input_text.specs.Values.{whole_within};
-ghost use Rattle.data_file.specs.Data.{is_inside, is_slow, pair_in, pair_of, position_in, position_with, velocity_in, velocity_with};
+//! The rows of masses and coefficients.
+ghost use Rattle.std.specs.Prelude.{◌≡◌, pos};
+ghost use Rattle.data_file.specs.Rows.{angle_line_row, bond_line_parts, bond_line_row, cutoff_field, is_covered, mass_row, pair_fields, pair_parts, pair_row};
+ghost use Rattle.data_file.specs.Words.{words_of};
 
-use crate::by_id::ById;
-use box_geo::limits::{MAX_ID, MAX_SPEED};
-use box_geo::{Extent, Sides};
-use fx_num::{Seq, Text, V3};
-use input_text::{Lines, Stop, number_in, vector_of, whole_within};
-use std::alloc::Global;
+use crate::contents::{AngleLine, BondLine, PairLine};
+use crate::fault::DataFault;
+use crate::fields::{both, decimal_field, kind_field};
+use crate::tables::Keys;
+use crate::words::{count_words, word_at};
+use box_geo::limits::{
+    MAX_CUTOFF, MAX_EPSILON, MAX_MASS, MAX_REST_LENGTH, MAX_SIGMA, MAX_STIFFNESS, MIN_MASS,
+};
 
-/// The id of a word.
-fn id_in(word: &Text) -> Option<u32>
-    ensures { result ≡ whole_within 1 MAX_ID word.now }
+/// A type and its mass.
+#[tactic(auto, unfolding(crate::specs::Rows::mass_row))]
+pub(crate) fn mass_row(line: &[u8], kinds: u8, met: &Keys) -> Result<(u8, i64), DataFault>
+    ensures { result ≡ mass_row kinds met.now (words_of line.now) }
 {
-    Some(whole_within(1, MAX_ID as u64, word)? as u32)
+    if count_words(line) != 2 {
+        return Err(DataFault::Count);
+    }
+    let kind = kind_field(word_at(line, 0), kinds);
+    let mass = decimal_field(word_at(line, 1), MIN_MASS, MAX_MASS);
+    let row = both(kind, mass)?;
+    if met.has(u32::from(row.0)) {
+        return Err(DataFault::Twice);
+    }
+    Ok(row)
 }
 
-/// An id and a vector.
-fn pair_of(id: Option<u32>, vector: Option<V3>) -> Option<(u32, V3)>
-    ensures { result ≡ pair_of id vector }
+/// The cutoff of a pair, which may be left out.
+fn cutoff_field(line: &[u8]) -> Result<Option<i64>, DataFault>
+    ensures { result ≡ cutoff_field (words_of line.now) }
 {
-    Some((id?, vector?))
+    if count_words(line) != 4 {
+        return Ok(None);
+    }
+    Ok(Some(decimal_field(word_at(line, 3), 1, MAX_CUTOFF)?))
 }
 
-/// The id and the vector of the words of a row.
-fn pair_in(words: &[Text]) -> Option<(u32, V3)>
-    ensures { result ≡ pair_in words.now }
+/// The type and energy, the size and cutoff of a pair.
+type PairParts = ((u8, i64), (i64, Option<i64>));
+
+/// The numbers of a row of a pair.
+#[tactic(auto, unfolding(crate::specs::Rows::pair_parts))]
+fn pair_parts(line: &[u8], kinds: u8) -> Result<PairParts, DataFault>
+    ensures { result ≡ pair_parts kinds (words_of line.now) }
 {
-    match words {
-        [id, x, y, z] => pair_of(
-            id_in(id),
-            vector_of(number_in(x), number_in(y), number_in(z)),
-        ),
-        _ => None,
+    let kind = kind_field(word_at(line, 0), kinds);
+    let epsilon = decimal_field(word_at(line, 1), 0, MAX_EPSILON);
+    let sigma = decimal_field(word_at(line, 2), 1, MAX_SIGMA);
+    both(both(kind, epsilon), both(sigma, cutoff_field(line)))
+}
+
+/// The coefficients of a row of a pair.
+fn pair_fields(line: &[u8], kinds: u8) -> Result<PairLine, DataFault>
+    ensures { result ≡ pair_fields kinds (words_of line.now) }
+{
+    let ((kind, epsilon), (sigma, cutoff)) = pair_parts(line, kinds)?;
+    Ok(PairLine {
+        kind,
+        epsilon,
+        sigma,
+        cutoff,
+    })
+}
+
+/// Whether four cutoffs reach over a size.
+fn is_covered(sigma: i64, cutoff: Option<i64>) -> bool
+    ensures { result ≡ is_covered sigma cutoff }
+{
+    match cutoff {
+        None => true,
+        Some(cutoff) => i128::from(sigma) <= 4 * i128::from(cutoff),
     }
 }
 
-/// Whether an axis holds a number.
-fn holds(extent: &Extent, x: &i64) -> bool
-    ensures { result ≡ holds extent.now x.now }
+/// The coefficients of a pair of atoms of one type.
+#[tactic(auto, unfolding(crate::specs::Rows::pair_row))]
+pub(crate) fn pair_row(line: &[u8], kinds: u8, met: &Keys) -> Result<PairLine, DataFault>
+    ensures { result ≡ pair_row kinds met.now (words_of line.now) }
 {
-    extent.holds(*x)
-}
-
-/// Whether a position is inside the box.
-fn is_inside(sides: &Sides, position: &V3) -> bool
-    ensures { result ≡ is_inside sides.now position.now }
-{
-    let [x, y, z] = position;
-    holds(&sides.x, x) && holds(&sides.y, y) && holds(&sides.z, z)
-}
-
-/// Whether each component of a velocity is within the limit.
-fn is_slow(velocity: &V3) -> bool
-    ensures { result ≡ is_slow velocity.now }
-{
-    let limit = MAX_SPEED.unsigned_abs();
-    velocity[0].unsigned_abs() <= limit
-        && velocity[1].unsigned_abs() <= limit
-        && velocity[2].unsigned_abs() <= limit
-}
-
-/// A position inside the box of an id that has none yet.
-fn position_with(sides: &Sides, positions: &ById, pair: Option<(u32, V3)>) -> Option<(u32, V3)>
-    ensures { result ≡ position_with sides.now positions.now pair }
-{
-    let (id, position) = pair?;
-    let inside = is_inside(sides, &position);
-    if inside && !positions.has(id) {
-        Some((id, position))
-    } else {
-        None
+    let count = count_words(line);
+    if !(count == 3 || count == 4) {
+        return Err(DataFault::Count);
     }
-}
-
-/// A velocity within the limit of an atom that has none yet.
-fn velocity_with(positions: &ById, velocities: &ById, pair: Option<(u32, V3)>) -> Option<(u32, V3)>
-    ensures { result ≡ velocity_with positions.now velocities.now pair }
-{
-    let (id, velocity) = pair?;
-    let slow = is_slow(&velocity);
-    if slow && positions.has(id) && !velocities.has(id) {
-        Some((id, velocity))
-    } else {
-        None
+    let pair = pair_fields(line, kinds)?;
+    if !is_covered(pair.sigma, pair.cutoff) {
+        return Err(DataFault::Limit);
     }
+    if met.has(u32::from(pair.kind)) {
+        return Err(DataFault::Twice);
+    }
+    Ok(pair)
 }
 
-/// The position of the words of its row.
-fn position_in(sides: &Sides, positions: &ById, words: Option<Seq<Text>>) -> Option<(u32, V3)>
-    ensures { result ≡ option_and_then (position_in sides.now positions.now) words }
+/// The numbers of a row of a bond type.
+#[tactic(auto, unfolding(crate::specs::Rows::bond_line_parts))]
+fn bond_line_parts(line: &[u8], kinds: u8) -> Result<(u8, (i64, i64)), DataFault>
+    ensures { result ≡ bond_line_parts kinds (words_of line.now) }
 {
-    position_with(sides, positions, pair_in(words?.as_slice()))
+    let kind = kind_field(word_at(line, 0), kinds);
+    let stiffness = decimal_field(word_at(line, 1), 0, MAX_STIFFNESS);
+    let length = decimal_field(word_at(line, 2), 0, MAX_REST_LENGTH);
+    both(kind, both(stiffness, length))
 }
 
-/// The velocity of the words of its row.
-fn velocity_in(positions: &ById, velocities: &ById, words: Option<Seq<Text>>) -> Option<(u32, V3)>
-    ensures { result ≡ option_and_then (velocity_in positions.now velocities.now) words }
+/// The coefficients of a bond type.
+#[tactic(auto, unfolding(crate::specs::Rows::bond_line_row))]
+pub(crate) fn bond_line_row(line: &[u8], kinds: u8, met: &Keys) -> Result<BondLine, DataFault>
+    ensures { result ≡ bond_line_row kinds met.now (words_of line.now) }
 {
-    velocity_with(positions, velocities, pair_in(words?.as_slice()))
+    if count_words(line) != 3 {
+        return Err(DataFault::Count);
+    }
+    let (kind, (stiffness, rest_length)) = bond_line_parts(line, kinds)?;
+    if met.has(u32::from(kind)) {
+        return Err(DataFault::Twice);
+    }
+    Ok(BondLine {
+        kind,
+        stiffness,
+        rest_length,
+    })
 }
 
-/// Reads a row of the section of positions, behind those that were read.
-///
-/// # Errors
-///
-/// `Line` where it is no row, its position is outside the box or its id has a position, and
-/// `NoMemory`.
-pub(crate) fn read_position(
-    alloc: Global,
-    lines: &mut Lines,
-    sides: &Sides,
-    positions: &ById,
-) -> Result<(u32, V3), Stop>
-    ensures { Reads (line (codes "% 1 % % %") (position_in sides.now positions.now)) lines.old result lines.new }
+/// The coefficients of an angle type.
+#[tactic(auto, unfolding(crate::specs::Rows::angle_line_row))]
+pub(crate) fn angle_line_row(line: &[u8], kinds: u8, met: &Keys) -> Result<AngleLine, DataFault>
+    ensures { result ≡ angle_line_row kinds met.now (words_of line.now) }
 {
-    let words = lines.words(alloc, b"% 1 % % %")?;
-    lines.take(position_in(sides, positions, words))
-}
-
-/// Reads a row of the section of velocities, behind those that were read.
-///
-/// # Errors
-///
-/// `Line` where it is no row, its velocity is above the limit, or its id has no position or has a
-/// velocity, and `NoMemory`.
-pub(crate) fn read_velocity(
-    alloc: Global,
-    lines: &mut Lines,
-    positions: &ById,
-    velocities: &ById,
-) -> Result<(u32, V3), Stop>
-    ensures { Reads (line (codes "% % % %") (velocity_in positions.now velocities.now)) lines.old result lines.new }
-{
-    let words = lines.words(alloc, b"% % % %")?;
-    lines.take(velocity_in(positions, velocities, words))
+    if count_words(line) != 2 {
+        return Err(DataFault::Count);
+    }
+    let kind = kind_field(word_at(line, 0), kinds);
+    let stiffness = decimal_field(word_at(line, 1), 0, MAX_STIFFNESS);
+    let (kind, stiffness) = both(kind, stiffness)?;
+    if met.has(u32::from(kind)) {
+        return Err(DataFault::Twice);
+    }
+    Ok(AngleLine { kind, stiffness })
 }

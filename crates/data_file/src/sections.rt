@@ -1,99 +1,153 @@
-//! The sections of atoms: positions, and velocities, which may be left out.
-ghost use Rattle.std.specs.Prelude.{◌≡◌, [], codes};
-ghost use Rattle.input_text.specs.Readers.{times, Reads};
-ghost use Rattle.data_file.specs.Data.{atoms_given, position_row, positions_section, sections, velocities_given, velocities_section, velocity_row};
+//! The sections of a data file, and their titles.
+ghost use Rattle.std.specs.Prelude.{◌≡◌};
+ghost use Rattle.data_file.specs.Sections.{begin, none_begun, coeffs_title, comes_after_atoms, has_begun, has_style, section_of, single_title};
+ghost use Rattle.data_file.specs.Words.{words_of};
 
-use crate::by_id::ById;
-use crate::header::{Header, read_title};
-use crate::rows::{read_position, read_velocity};
-use box_geo::{Atoms, Sides};
-use input_text::{Lines, Stop};
-use std::alloc::Global;
+use crate::words::{count_words, is_word};
+use box_geo::AtomStyle;
 
-/// Reads so many rows of positions.
-fn read_positions(alloc: Global, lines: &mut Lines, count: u32, sides: &Sides) -> Result<ById, Stop>
-    ensures { Reads (times count (position_row sides.now) []) lines.old result lines.new }
+/// A section.
+#[derive(Clone, Copy, Debug)]
+pub(crate) enum Section {
+    Masses,
+    PairCoeffs,
+    BondCoeffs,
+    AngleCoeffs,
+    Atoms,
+    Velocities,
+    Bonds,
+    Angles,
+}
+
+/// Which sections have begun.
+#[derive(Clone, Copy)]
+pub(crate) struct Begun {
+    pub(crate) masses: bool,
+    pub(crate) pair_coeffs: bool,
+    pub(crate) bond_coeffs: bool,
+    pub(crate) angle_coeffs: bool,
+    pub(crate) atoms: bool,
+    pub(crate) velocities: bool,
+    pub(crate) bonds: bool,
+    pub(crate) angles: bool,
+}
+
+/// The section whose title is the one word of a line.
+fn single_title(line: &[u8]) -> Option<Section>
+    ensures { result ≡ single_title (words_of line.now) }
 {
-    let mut positions = ById::new(alloc);
-    for _ in 0..count {
-        let (id, position) = read_position(alloc, lines, sides, &positions)?;
-        positions.put(id, position)?;
+    if is_word(line, 0, b"Masses") {
+        Some(Section::Masses)
+    } else if is_word(line, 0, b"Atoms") {
+        Some(Section::Atoms)
+    } else if is_word(line, 0, b"Velocities") {
+        Some(Section::Velocities)
+    } else if is_word(line, 0, b"Bonds") {
+        Some(Section::Bonds)
+    } else if is_word(line, 0, b"Angles") {
+        Some(Section::Angles)
+    } else {
+        None
     }
-    Ok(positions)
 }
 
-/// Reads so many rows of velocities.
-fn read_velocities(
-    alloc: Global,
-    lines: &mut Lines,
-    count: u32,
-    positions: &ById,
-) -> Result<ById, Stop>
-    ensures { Reads (times count (velocity_row positions.now) []) lines.old result lines.new }
+/// The section of coefficients whose title begins with the first word of a line.
+fn coeffs_title(line: &[u8]) -> Option<Section>
+    ensures { result ≡ coeffs_title (words_of line.now) }
 {
-    let mut velocities = ById::new(alloc);
-    for _ in 0..count {
-        let (id, velocity) = read_velocity(alloc, lines, positions, &velocities)?;
-        velocities.put(id, velocity)?;
+    if is_word(line, 0, b"Pair") {
+        Some(Section::PairCoeffs)
+    } else if is_word(line, 0, b"Bond") {
+        Some(Section::BondCoeffs)
+    } else if is_word(line, 0, b"Angle") {
+        Some(Section::AngleCoeffs)
+    } else {
+        None
     }
-    Ok(velocities)
 }
 
-/// Reads the section of positions.
-fn read_positions_section(alloc: Global, lines: &mut Lines, header: &Header) -> Result<ById, Stop>
-    ensures { Reads (positions_section header.now) lines.old result lines.new }
+/// The section whose title a line is, if it is one.
+#[tactic(auto, unfolding(crate::specs::Sections::section_of))]
+pub(crate) fn section_of(line: &[u8]) -> Option<Section>
+    ensures { result ≡ section_of (words_of line.now) }
 {
-    read_title(alloc, lines, b"Atoms")?;
-    read_positions(alloc, lines, header.count, &header.sides)
-}
-
-/// Reads a section of velocities that is there.
-fn read_velocities_given(
-    alloc: Global,
-    lines: &mut Lines,
-    header: &Header,
-    positions: &ById,
-) -> Result<ById, Stop>
-    ensures { Reads (velocities_given header.now positions.now) lines.old result lines.new }
-{
-    read_title(alloc, lines, b"Velocities")?;
-    read_velocities(alloc, lines, header.count, positions)
-}
-
-/// Reads the section of velocities, none where no line is left.
-fn read_velocities_section(
-    alloc: Global,
-    lines: &mut Lines,
-    header: &Header,
-    positions: &ById,
-) -> Result<ById, Stop>
-    ensures { Reads (velocities_section header.now positions.now) lines.old result lines.new }
-{
-    if lines.is_empty() {
-        return Ok(ById::new(alloc));
+    let count = count_words(line);
+    if count == 1 {
+        single_title(line)
+    } else if count == 2 && is_word(line, 1, b"Coeffs") {
+        coeffs_title(line)
+    } else {
+        None
     }
-    read_velocities_given(alloc, lines, header, positions)
 }
 
-/// Reads both sections.
-fn read_atoms_given(alloc: Global, lines: &mut Lines, header: &Header) -> Result<Atoms, Stop>
-    ensures { Reads (atoms_given header.now) lines.old result lines.new }
+/// Whether atoms of a style may have the rows of a section.
+pub(crate) fn has_style(section: Section, style: AtomStyle) -> bool
+    ensures { result ≡ has_style section style }
 {
-    let positions = read_positions_section(alloc, lines, header)?;
-    let velocities = read_velocities_section(alloc, lines, header, &positions)?;
-    Ok(positions.atoms(alloc, &velocities)?)
-}
-
-/// Reads the atoms, which no section gives where there are none.
-///
-/// # Errors
-///
-/// `Line` with the first line that is at fault, and `NoMemory`.
-pub(crate) fn read_atoms(alloc: Global, lines: &mut Lines, header: &Header) -> Result<Atoms, Stop>
-    ensures { Reads (sections header.now.count header.now) lines.old result lines.new }
-{
-    if header.count == 0 {
-        return Ok(Atoms::new(alloc));
+    match section {
+        Section::Bonds => !matches!(style, AtomStyle::Atomic),
+        Section::Angles => matches!(style, AtomStyle::Angle | AtomStyle::Molecular),
+        _ => true,
     }
-    read_atoms_given(alloc, lines, header)
+}
+
+/// Whether a section comes after that of the atoms.
+pub(crate) fn comes_after_atoms(section: Section) -> bool
+    ensures { result ≡ comes_after_atoms section }
+{
+    matches!(
+        section,
+        Section::Velocities | Section::Bonds | Section::Angles
+    )
+}
+
+impl Begun {
+    /// No section has.
+    pub(crate) fn none() -> Begun
+        ensures { result ≡ none_begun }
+    {
+        Begun {
+            masses: false,
+            pair_coeffs: false,
+            bond_coeffs: false,
+            angle_coeffs: false,
+            atoms: false,
+            velocities: false,
+            bonds: false,
+            angles: false,
+        }
+    }
+
+    /// Whether a section has.
+    pub(crate) fn has(&self, section: Section) -> bool
+        ensures { result ≡ has_begun section self.now }
+    {
+        match section {
+            Section::Masses => self.masses,
+            Section::PairCoeffs => self.pair_coeffs,
+            Section::BondCoeffs => self.bond_coeffs,
+            Section::AngleCoeffs => self.angle_coeffs,
+            Section::Atoms => self.atoms,
+            Section::Velocities => self.velocities,
+            Section::Bonds => self.bonds,
+            Section::Angles => self.angles,
+        }
+    }
+
+    /// Notes that a section begins.
+    pub(crate) fn begin(&mut self, section: Section)
+        ensures { self.new ≡ begin section self.old }
+    {
+        match section {
+            Section::Masses => self.masses = true,
+            Section::PairCoeffs => self.pair_coeffs = true,
+            Section::BondCoeffs => self.bond_coeffs = true,
+            Section::AngleCoeffs => self.angle_coeffs = true,
+            Section::Atoms => self.atoms = true,
+            Section::Velocities => self.velocities = true,
+            Section::Bonds => self.bonds = true,
+            Section::Angles => self.angles = true,
+        }
+    }
 }

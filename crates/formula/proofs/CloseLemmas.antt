@@ -5,7 +5,8 @@ use Rattle.std.specs.List.{list_all, list_any, starts_with, AllPass}
 use Rattle.std.proofs.lemmas.Bool.{eqb-true, eqb-false, ne_eqb}
 use Rattle.std.proofs.lemmas.List.{length-append}
 use Rattle.std.proofs.lemmas.List.Folds.{list_all-append}
-use Rattle.input_text.specs.Names.{is_id, is_id_byte}
+use Rattle.box_geo.specs.declared.limits.TheConstants.{MAX_NAME_BYTES}
+use Rattle.names.specs.Names.{is_id, is_id_byte}
 use Rattle.fx_num.specs.Decimal.{Decimal, IsDecimalText, IsSign, IsPoint, IsExponent}
 use Rattle.fx_num.proofs.DecimalLemmas.{not_number-no_form}
 use Rattle.formula.specs.Numbers.{literal_of, literal_from, is_number_front}
@@ -105,7 +106,7 @@ all_but : (text : List ℕ) (c : ℕ) → is_id_byte c ≡ false → list_all is
 all_but text c never = list_all-append is_id_byte text (c ∷ []) ∙ rw never (and_false (list_all is_id_byte text))
 
 no_id : (text : List ℕ) (c : ℕ) → is_id_byte c ≡ false → is_id (text ++ c ∷ []) ≡ false
-no_id text c never = rw (all_but text c never) (and_false (nat_le 1 (length (text ++ c ∷ [])) && nat_le (length (text ++ c ∷ [])) 64))
+no_id text c never = rw (all_but text c never) (and_false (nat_le 1 (length (text ++ c ∷ [])) && nat_le (length (text ++ c ∷ [])) MAX_NAME_BYTES))
 
 either_false : (a b : Bool) → ((a && false) || (b && false)) ≡ false
 either_false true true = refl

@@ -3,7 +3,7 @@ use Rattle.std.proofs.Common.{append-nil, ◌⊎◌, ◌≡◌, ◌==◌, ◌+�
 use Rattle.std.specs.List.{list_all, list_any, starts_with}
 use Rattle.std.specs.Str.{bytes_eq}
 use Rattle.std.proofs.lemmas.Bool.{eqb-true, eq-eqb}
-use Rattle.input_text.specs.Names.{is_id}
+use Rattle.names.specs.Names.{is_id}
 use Rattle.formula.specs.declared.state.Frame.{Frame}
 use Rattle.formula.specs.declared.state.State.TheVariants.{Word}
 use Rattle.formula.specs.Words.{words, keywords, has_name_mark, is_operand_name, is_word_front}

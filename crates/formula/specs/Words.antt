@@ -2,7 +2,7 @@
 use Rattle.std.specs.Prelude.{◌==◌, ◌||◌, ◌&&◌, cond, Bool, nat_eq, ℕ, Option, Some, None, List, [], ◌∷◌, length, drop, codes}
 use Rattle.std.specs.List.{list_any, starts_with}
 use Rattle.std.specs.Str.{bytes_eq}
-use Rattle.input_text.specs.Names.{is_id}
+use Rattle.names.specs.Names.{is_id}
 use Rattle.formula.specs.declared.tree.Function.{Function}
 use Rattle.formula.specs.declared.tree.Function.TheVariants.{Sqrt, Abs, Floor, Ceil, Round}
 

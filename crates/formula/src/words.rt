@@ -5,7 +5,7 @@ ghost use Rattle.std.specs.Str.{bytes_eq};
 ghost use Rattle.formula.specs.Words.{words, keywords, function_of, has_name_mark, is_operand_name, is_word_front};
 
 use crate::tree::Function;
-use input_text::is_id;
+use names::is_id;
 
 /// How many words there are, the names of functions first.
 const WORDS: usize = 29;

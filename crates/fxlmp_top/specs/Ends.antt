@@ -2,7 +2,7 @@
 use Rattle.std.specs.Prelude.{◌≡◌, ◌<◌, ℕ, Option, Some, None, IfNone, IsTrue, Result, Ok, Err, List}
 use Rattle.meaning.specs.declared.code.Code.TheVariants.{FileTooLong}
 use Rattle.meaning.specs.Answers.{is_absence}
-use Rattle.meaning.specs.Causes.{Counts}
+use Rattle.meaning.specs.Causes.{Outside}
 use Rattle.outside.specs.declared.press.Piece.{Piece}
 use Rattle.outside.specs.Sent.{plus, SendsCut, SendsFront}
 use Rattle.outside.specs.Stock.{Rose}
@@ -73,10 +73,10 @@ EndsAs status old run new = (run.status ≡ status) × (new ≡ plus old run.pie
 
 -- a status blames a device only where its count rose. A file that a shelf missed which tells nothing is told of only where that count rose; not so the
 -- script, at line 0, where it is too long, since its limit is lower than the shelf's.
-abbrev pub HasCause : Status → Counts → Counts → Type 0
+abbrev pub HasCause : Status → Outside → Outside → Type 0
 HasCause (ScriptRefused code file line) old new =
-    IsTrue (is_absence code) → (code ≡ FileTooLong → 0 < line) → IfNone old.stock (Rose old.absences new.absences)
-HasCause ReadFault old new = Rose old.reads new.reads
-HasCause WriteFault old new = Rose old.writes new.writes
-HasCause DiskFault old new = ⊥
+    IsTrue (is_absence code) → (code ≡ FileTooLong → 0 < line) → IfNone old.shelf.stock (Rose old.shelf.absent new.shelf.absent)
+HasCause ReadFault old new = Rose old.shelf.faults new.shelf.faults
+HasCause WriteFault old new = Rose old.press.faults new.press.faults
+HasCause DiskFault old new = Rose old.disk new.disk
 HasCause _ old new = Unit {0}

@@ -9,8 +9,7 @@
 use Rattle.std.specs.Prelude.{◌==◌, ◌+◌, ◌&&◌, ◌||◌, Bool, true, false, cond, is_some, not, ℕ, Option, Some, None, Result, Ok, Err, List, [], ◌∷◌, ◌++◌, codes}
 use Rattle.std.specs.Char.{is_ascii_alphabetic}
 use Rattle.std.specs.Str.{bytes_eq}
-use Rattle.input_text.specs.Names.{is_file_name, is_id}
-use Rattle.meaning.specs.Uses.{is_compressed}
+use Rattle.names.specs.Names.{is_compressed, is_file_name, is_id}
 use Rattle.fxlmp_top.specs.declared.asked.Asked.{Asked}
 use Rattle.fxlmp_top.specs.declared.asked.ScriptName.{ScriptName}
 use Rattle.fxlmp_top.specs.declared.asked.Definition.{Definition}

@@ -77,5 +77,5 @@ pub(crate) fn first_settings(
         screen: asked.screen,
         uses,
     };
-    Ok(begun_with(alloc, output, vars))
+    begun_with(alloc, output, vars)
 }

@@ -5,8 +5,7 @@ ghost use Rattle.std.specs.Prelude.{◌≡◌, IfNone, IfOk};
 
 use crate::asked::{Asked, Definition, LogChoice, ScriptName, Wanted};
 use fx_num::{NoMemory, Seq, Text};
-use input_text::{is_file_name, is_id};
-use meaning::is_compressed;
+use names::{is_compressed, is_file_name, is_id};
 use std::alloc::Global;
 
 /// Why words ask for nothing.

@@ -2,7 +2,7 @@
 //! and how many guesses of a list of pairs are wrong.
 ghost use Rattle.std.specs.Prelude.{◌≡◌, ◌^◌, ◌<◌, ◌≤◌, pos, ◌<ℤ◌, ◌≤ℤ◌, unsigned_abs, IfOk};
 ghost use Rattle.pair_lj.specs.PairTerm.{IsDisplacement};
-ghost use Rattle.pair_lj.specs.Table.{kinds_of, IsFinished};
+ghost use Rattle.pair_lj.specs.Table.{IsFinished};
 
 use box_geo::Term;
 use box_geo::limits::{FULL_WEIGHT, MAX_CUTOFF, MAX_EPSILON, MAX_SIGMA};
@@ -43,7 +43,7 @@ fn has_terms<L: Ledger>(rt: &impl Abort, table: &PairTable, blank: Blank)
     requires parts { blank.parts ≡ L.parts }
     requires some { 0 < blank.parts }
     requires finished { IsFinished table.now }
-    requires two { kinds_of table.now ≡ 2 }
+    requires two { table.now.kinds ≡ 2 }
 {
     let mut steps = Steps::<L>::new(blank);
     let rows = [
@@ -264,7 +264,7 @@ fn table_of(
     cut: i64,
 ) -> Result<PairTable, Fail>
     ensures finished { IfOk result IsFinished }
-    ensures one { IfOk result (λ t. kinds_of t ≡ 1) }
+    ensures one { IfOk result (λ t. t.kinds ≡ 1) }
 {
     assert!(rt; eps >= 0 && eps <= MAX_EPSILON && sigma > 0 && sigma <= MAX_SIGMA);
     assert!(rt; cut > 0 && cut <= MAX_CUTOFF);
@@ -304,7 +304,7 @@ fn has_term_by_halves<L: Ledger>(
     requires parts { blank.parts ≡ L.parts }
     requires some { 0 < blank.parts }
     requires finished { IsFinished table.now }
-    requires one { kinds_of table.now ≡ 1 }
+    requires one { table.now.kinds ≡ 1 }
     requires d { IsDisplacement d }
     requires weight { (pos 0 <ℤ weight) × (weight ≤ℤ FULL_WEIGHT) }
 {
@@ -402,7 +402,7 @@ fn wrong_guesses<L: Ledger>(table: &PairTable, sigma: u64, wide: bool, blank: Bl
     requires parts { blank.parts ≡ L.parts }
     requires some { 0 < blank.parts }
     requires finished { IsFinished table.now }
-    requires one { kinds_of table.now ≡ 1 }
+    requires one { table.now.kinds ≡ 1 }
 {
     let mut steps = Steps::<L>::new(blank);
     let (mut guesses, mut wrong) = (0u64, 0u64);

@@ -9,7 +9,8 @@ use Rattle.command_words.specs.declared.fixes.FixStyle.TheVariants.{Nve}
 use Rattle.command_words.specs.declared.fixes.NewFix.{NewFix}
 use Rattle.meaning.specs.declared.settings.Settings.{Settings}
 use Rattle.meaning.specs.Fixes.{fix, unfix}
-use Rattle.meaning.specs.Masses.{mass}
+use Rattle.meaning.specs.Lattice.{create_atoms, create_box, lattice, region}
+use Rattle.meaning.specs.MassesGroups.{mass}
 use Rattle.meaning.specs.Neighbors.{comm_cutoff, neighbor}
 use Rattle.meaning.specs.Outcome.{Outcome, answered, done, quits, silent, unbuilt}
 use Rattle.meaning.specs.Output.{log, print}
@@ -42,6 +43,10 @@ outcome_of files (command.Processors grid) s = answered s (processors grid s)
 outcome_of files command.Newton s = done s
 outcome_of files command.AtomModify s = done s
 outcome_of files command.Echo s = done s
+outcome_of files (command.Lattice l) s = answered s (lattice l s)
+outcome_of files (command.Region r) s = answered s (region r s)
+outcome_of files (command.CreateBox b) s = answered s (create_box b s)
+outcome_of files (command.CreateAtoms c) s = answered s (create_atoms c s)
 outcome_of files (command.ReadData name) s = read_data files name s
 outcome_of files (command.Mass m) s = answered s (mass m s)
 outcome_of files (command.PairStyle cutoff) s = answered s (pair_style cutoff s)

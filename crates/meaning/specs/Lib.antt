@@ -3,8 +3,9 @@ pub mod Causes
 pub mod Codes
 pub mod Commands
 pub mod Fixes
+pub mod Lattice
 pub mod Lines
-pub mod Masses
+pub mod MassesGroups
 pub mod Neighbors
 pub mod Outcome
 pub mod Output

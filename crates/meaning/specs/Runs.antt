@@ -13,10 +13,12 @@ use Rattle.meaning.specs.declared.settings.Body.{Body}
 use Rattle.meaning.specs.declared.settings.Settings.{Settings}
 use Rattle.meaning.specs.Fixes.{fixes_over, moves_twice}
 use Rattle.meaning.specs.Outcome.{Outcome, Way, fails, goes, refused}
-use Rattle.meaning.specs.Pairs.{are_all_set, field_of, reach_of}
+use Rattle.meaning.specs.Pairs.{reach_of}
 use Rattle.meaning.specs.Shown.{Shown, nothing_shown, shown, shown_then}
 use Rattle.meaning.specs.Thermo.{is_due, thermo_footer, thermo_header, thermo_line}
 use Rattle.outside.specs.declared.press.Piece.{Piece}
+use Rattle.pair_lj.specs.Pairs.{are_all_had}
+use Rattle.serial_step.specs.Forces.{field_of}
 use Rattle.serial_step.specs.Room.{edge_too_small}
 use Rattle.serial_step.specs.Work.{step_pairs}
 use Rattle.sums.specs.Totals.{half}
@@ -36,7 +38,7 @@ key_of word = record { phase = word / 2 ^ 56; kind = word / 2 ^ 48 % 2 ^ 8; a = 
 -- what stands still in a run
 abbrev pub setting_of : Settings → Body → Setting
 setting_of s b = record {
-  field = field_of s.force;
+  field = field_of s.force.pairs;
   sides = b.sides;
   dt = s.setup.timestep;
   mass = b.mass;
@@ -47,7 +49,7 @@ setting_of s b = record {
 
 -- all that forces and motion rest on is set: a pair style, each mass, each pair of types
 abbrev pub is_ready : Settings → Body → Bool
-is_ready s b = not (is_none s.force.pair_style) && list_all (λ m. int_lt (pos 0) m) b.mass && are_all_set (length b.mass) s.force.pairs
+is_ready s b = not (is_none s.force.pair_style) && list_all (λ m. int_lt (pos 0) m) b.mass && are_all_had (length b.mass) s.force.pairs
 
 -- why a run is refused, in the order of judgement
 abbrev pub run_code : Bool → ℕ → Settings → Body → Option Code

@@ -32,9 +32,15 @@ pub record EndsBy (how : Way) (meant : Outcome) (old new : Option (List Piece)) 
   pub sent : new ≡ plus old meant.pieces
   pub output : state.output ≡ meant.state.output
 
+-- a call that is refused with a code: its pieces were sent, and the state is the one that is meant
+pub record RefusedBy (code : Code) (meant : Outcome) (old new : Option (List Piece)) (state : Settings) : Type 0 where
+  pub way : meant.way ≡ refuses code
+  pub sent : new ≡ plus old meant.pieces
+  pub state_is : state ≡ meant.state
+
 -- it ends by a refusal: by that which is meant; or by a fault or want of memory, with a prefix of the pieces
 abbrev pub StoppedBy : Refusal → Outcome → Option (List Piece) → Option (List Piece) → Settings → Type 0
-StoppedBy (why.Code code) meant old new state = EndsBy (refuses code) meant old new state
+StoppedBy (why.Code code) meant old new state = RefusedBy code meant old new state
 StoppedBy (Range key step) meant old new state = EndsBy (fails key step) meant old new state
 StoppedBy ReadFault meant old new state = SendsFront old meant.pieces new
 StoppedBy WriteFault meant old new state = SendsCut old meant.pieces new

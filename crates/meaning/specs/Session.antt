@@ -10,13 +10,13 @@ use Rattle.meaning.specs.declared.setup.Setup.{Setup}
 use Rattle.var_table.specs.Variables.{Named as Variable}
 
 abbrev pub first_setup : Setup
-first_setup = record { dim = 3; periodic = true ∷ true ∷ true ∷ []; style = Atomic; grid = 1 ∷ 1 ∷ 1 ∷ []; timestep = DEFAULT_TIMESTEP }
+first_setup = record { dim = 3; periodic = true ∷ true ∷ true ∷ []; style = Atomic; grid = 1 ∷ 1 ∷ 1 ∷ []; timestep = DEFAULT_TIMESTEP; lattice = None }
 
 abbrev pub first_force : Force
 first_force = record { pair_style = None; pairs = []; comm_cutoff = pos 0; skin = DEFAULT_SKIN }
 
 abbrev pub first_named : Named
-first_named = record { fixes = [] }
+first_named = record { regions = []; fixes = [] }
 
 -- the settings as they are at the start, but for the log, the screen, the uses of names and the variables
 abbrev pub begun_with : Output → List Variable → Settings

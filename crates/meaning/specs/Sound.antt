@@ -1,39 +1,35 @@
 -- What the numbers of a state keep to.
-use Rattle.std.specs.Prelude.{◌≡◌, ◌≤◌, ◌*◌, ◌⊎◌, ◌+ℤ◌, ◌*ℤ◌, ◌<ℤ◌, ◌≤ℤ◌, Bool, true, ℕ, ℤ, pos, unsigned_abs, Option, IfSome, IsTrue, List, length}
+use Rattle.std.specs.Prelude.{◌≡◌, ◌≤◌, ◌⊎◌, ◌+ℤ◌, ◌*ℤ◌, ◌<ℤ◌, ◌≤ℤ◌, Bool, true, ℕ, ℤ, pos, unsigned_abs, Option, IfSome, IsTrue, List, [], length}
 use Rattle.std.specs.List.{All}
 use Rattle.box_geo.specs.declared.atoms.Atom.{Atom}
 use Rattle.box_geo.specs.declared.limits.TheConstants.{MAX_ATOMS, MAX_CUTOFF, MAX_EPSILON, MAX_FORCE, MAX_ID, MAX_IMAGE, MAX_KINDS, MAX_MASS, MAX_SIGMA, MAX_SKIN, MAX_SPEED, MAX_STEP, MAX_TIMESTEP, MIN_MASS}
 use Rattle.box_geo.specs.declared.sim_box.Sides.{Sides}
 use Rattle.box_geo.specs.Sides.{IsInside, IsSound as IsSoundSides, x_of, y_of, z_of}
+use Rattle.command_words.specs.declared.limits.TheConstants.{MAX_DENSITY, MIN_DENSITY}
 use Rattle.command_words.specs.Limits.{IsCutoff}
 use Rattle.fix_list.specs.Fixes.{Rises}
 use Rattle.meaning.specs.declared.force.Force.{Force}
-use Rattle.meaning.specs.declared.pair_settings.PairCoefficients.{PairCoefficients}
 use Rattle.meaning.specs.declared.settings.Body.{Body}
 use Rattle.meaning.specs.declared.settings.Settings.{Settings}
 use Rattle.meaning.specs.declared.setup.Setup.{Setup}
 use Rattle.meaning.specs.Fixes.{ids_of}
+use Rattle.box_geo.specs.declared.styles.AtomStyle.TheVariants.{Atomic}
+use Rattle.meaning.specs.declared.setup.LatticeChoice.{LatticeChoice}
 use Rattle.meaning.specs.Setup.{goes_together}
+use Rattle.pair_lj.specs.Pairs.{IsSoundPair}
 
--- two or three dimensions, z periodic in two, and a timestep within its limit
+-- a density within its limits
+abbrev pub IsSoundLattice : LatticeChoice → Type 0
+IsSoundLattice l = (MIN_DENSITY ≤ℤ l.density) × (l.density ≤ℤ MAX_DENSITY)
+
+-- two or three dimensions, z periodic in two, and a timestep within its limit. Atoms with bonds are not built yet.
 pub record IsSoundSetup (s : Setup) : Type 0 where
+  pub style : s.style ≡ Atomic
+  pub lattice : IfSome s.lattice IsSoundLattice
   pub dim : (s.dim ≡ 2) ⊎ (s.dim ≡ 3)
   pub together : IsTrue (goes_together s.dim s.periodic)
   pub slow : pos 0 ≤ℤ s.timestep
   pub quick : s.timestep ≤ℤ MAX_TIMESTEP
-
--- the lesser type first, and numbers within their limits
-pub record IsSoundPair (p : PairCoefficients) : Type 0 where
-  pub low : 1 ≤ p.i
-  pub ordered : p.i ≤ p.j
-  pub high : p.j ≤ MAX_KINDS
-  pub epsilon_low : pos 0 ≤ℤ p.epsilon
-  pub epsilon_high : p.epsilon ≤ℤ MAX_EPSILON
-  pub sigma_low : pos 0 <ℤ p.sigma
-  pub sigma_high : p.sigma ≤ℤ MAX_SIGMA
-  pub cutoff_low : pos 0 <ℤ p.cutoff
-  pub cutoff_high : p.cutoff ≤ℤ MAX_CUTOFF
-  pub covered : p.sigma ≤ℤ (pos 4 *ℤ p.cutoff)
 
 pub record IsSoundForce (f : Force) : Type 0 where
   pub style : IfSome f.pair_style IsCutoff
@@ -71,6 +67,8 @@ pub record IsSoundBody (b : Body) : Type 0 where
   pub few : length b.atoms ≤ MAX_ATOMS
   pub atoms : All (IsSoundAtom b.sides (length b.mass)) b.atoms
   pub rising : Rises (ids_of b.atoms)
+  pub bonds : b.bonds ≡ []
+  pub angles : b.angles ≡ []
 
 -- a box has the dimension that was set
 abbrev pub IsOfSetup : Setup → Body → Type 0

@@ -1,7 +1,7 @@
 -- The uses of file names in a call of the program, and pieces under names. The first use of a name fixes what it is used for; a piece is fresh where it
 -- is the first under its name.
-use Rattle.std.specs.Prelude.{◌≡◌, ◌&&◌, ◌||◌, Bool, true, false, cond, not, ℕ, Option, Some, None, Result, Ok, Err, List, [], ◌∷◌, ◌++◌, map, find, codes, nat_eq}
-use Rattle.std.specs.List.{list_any, ends_with}
+use Rattle.std.specs.Prelude.{◌≡◌, ◌&&◌, ◌||◌, Bool, true, false, cond, not, ℕ, Option, Some, None, Result, Ok, Err, List, [], ◌∷◌, ◌++◌, map, find}
+use Rattle.std.specs.List.{list_any}
 use Rattle.std.specs.Str.{bytes_eq}
 use Rattle.meaning.specs.declared.code.Code.{Code}
 use Rattle.meaning.specs.declared.code.Code.TheVariants as code
@@ -9,6 +9,7 @@ use Rattle.meaning.specs.declared.uses.NameUse.{NameUse}
 use Rattle.meaning.specs.declared.output.Output.{Output}
 use Rattle.meaning.specs.declared.uses.UseKind.{UseKind}
 use Rattle.meaning.specs.declared.uses.UseKind.TheVariants.{Fetched, Put, Kept, Report}
+use Rattle.names.specs.Names.{is_compressed}
 use Rattle.outside.specs.declared.press.Piece.{Piece}
 use Rattle.outside.specs.Sent.{piece_of}
 
@@ -28,11 +29,6 @@ abbrev pub used_beside : UseKind → List ℕ → List NameUse → Option UseKin
 used_beside kind name uses None = Ok (uses ++ record { name = name; kind = kind; begun = false } ∷ [])
 used_beside kind name uses (Some old) = cond (is_same_kind kind old) (Ok uses) (Err code.NameUse)
 
--- a name that stands for a compressed file
-abbrev pub is_compressed : List ℕ → Bool
-is_compressed name =
-    ends_with nat_eq name (codes ".gz") || ends_with nat_eq name (codes ".bz2") || ends_with nat_eq name (codes ".xz") || ends_with nat_eq name (codes ".zst") || ends_with nat_eq name (codes ".lz4")
-
 -- the uses once a name is used so; refused where it has another use, and then where it stands for a compressed file
 abbrev pub used_as : UseKind → List ℕ → List NameUse → Result (List NameUse) Code
 used_as kind name uses = used_beside kind name uses (kind_of uses name)
@@ -43,6 +39,11 @@ uncompressed name (Err why) = Err why
 
 abbrev pub names : UseKind → List ℕ → List NameUse → Result (List NameUse) Code
 names kind name uses = uncompressed name (used_as kind name uses)
+
+-- the code with which a use is refused
+abbrev pub code_in : Result (List NameUse) Code → Option Code
+code_in (Ok uses) = None
+code_in (Err why) = Some why
 
 -- whether a piece was put under a name
 abbrev pub has_begun : List NameUse → List ℕ → Bool

@@ -1,6 +1,6 @@
 //! What forces rest on.
 
-use crate::pair_settings::PairSettings;
+use pair_lj::PairSettings;
 
 /// What forces rest on.
 #[derive(Drop)]

@@ -20,7 +20,7 @@ pub enum Refusal {
     DiskFault,
     /// Out of memory.
     NoMemory,
-    /// The command, or the form of its data file, is not built yet.
+    /// The command is not built yet.
     NotBuilt,
 }
 

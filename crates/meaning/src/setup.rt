@@ -1,8 +1,17 @@
 //! What is set up before there is a box, and the timestep.
 
-use box_geo::AtomStyle;
+use box_geo::{AtomStyle, LatticeStyle};
 
-/// What is set up before there is a box, and the timestep.
+/// The lattice that a script set.
+#[derive(Clone, Copy)]
+pub struct LatticeChoice {
+    /// The style.
+    pub style: LatticeStyle,
+    /// The reduced density, in units.
+    pub density: i64,
+}
+
+/// What is set up before there is a box, the timestep and the lattice.
 #[derive(Clone, Copy)]
 pub struct Setup {
     /// 2 or 3 dimensions.
@@ -15,4 +24,6 @@ pub struct Setup {
     pub grid: [u32; 3],
     /// The timestep, in units.
     pub timestep: i64,
+    /// The lattice, where one is set.
+    pub lattice: Option<LatticeChoice>,
 }

@@ -1,11 +1,12 @@
 //! The uses of file names.
 ghost use Rattle.std.specs.Prelude.{◌≡◌, ◌++◌, [], ◌∷◌, false, OnErr, OnOk};
 ghost use Rattle.meaning.specs.Answers.{Answers};
-ghost use Rattle.meaning.specs.Uses.{begun, begun_at, has_begun, is_compressed, is_same_kind, kind_of, names};
+ghost use Rattle.meaning.specs.Uses.{begun, begun_at, has_begun, is_same_kind, kind_of, names, code_in};
 
 use crate::code::Code;
 use crate::refusal::SettingsRefusal;
 use fx_num::{NoMemory, Text};
+use names::is_compressed;
 use std::alloc::Global;
 use std::marker::Model;
 
@@ -63,17 +64,6 @@ impl Model for Uses {
     ghost view = { λ u. u.items.items };
 }
 
-/// Whether this is the name of a compressed file.
-pub fn is_compressed(name: &[u8]) -> bool
-    ensures { result ≡ is_compressed name.now }
-{
-    name.ends_with(b".gz")
-        || name.ends_with(b".bz2")
-        || name.ends_with(b".xz")
-        || name.ends_with(b".zst")
-        || name.ends_with(b".lz4")
-}
-
 impl Uses {
     /// No uses yet.
     pub fn new(alloc: Global) -> Uses
@@ -82,6 +72,21 @@ impl Uses {
         Uses {
             items: Vec::new(alloc),
         }
+    }
+
+    /// The code with which a use of a name is refused: it has another use, or else it stands for a compressed file.
+    pub fn refusal_of(&self, kind: UseKind, name: &Text) -> Option<Code>
+        ensures { result ≡ code_in (names kind name.now self.now) }
+    {
+        if let Some(other) = self.kind_of(name)
+            && !kind.is_same(&other)
+        {
+            return Some(Code::NameUse);
+        }
+        if is_compressed(name.as_bytes()) {
+            return Some(Code::CompressedName);
+        }
+        None
     }
 
     /// Uses a name: refused where it has another use, and then where it stands for a compressed file.

@@ -2,6 +2,11 @@
 use Rattle.std.specs.Prelude.{◌≡◌, ℕ, Bool, List, [], ◌∷◌, ◌++◌, take, Option, Some, None}
 use Rattle.outside.specs.declared.press.Piece.{Piece}
 
+-- what contracts see of a press: the pieces that it was sent, or `None` where it does not tell; and how often it failed
+pub record Pressed : Type 0 where
+  pub sent : Option (List Piece)
+  pub faults : ℕ
+
 -- what was sent, and then these pieces
 abbrev pub plus : Option (List Piece) → List Piece → Option (List Piece)
 plus None pieces = None

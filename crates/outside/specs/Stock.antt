@@ -8,6 +8,12 @@ use Rattle.outside.specs.declared.files.File.{File}
 use Rattle.outside.specs.declared.shelf.FetchRefusal.{FetchRefusal}
 use Rattle.outside.specs.declared.shelf.FetchRefusal.TheVariants.{Missing, TooLong, Faulted, NoMemory}
 
+-- what contracts see of a shelf: what stands on it, or `None` where it does not tell; how often it failed; and how many files were missing or too long
+pub record Shelved : Type 0 where
+  pub stock : Option (List File)
+  pub faults : ℕ
+  pub absent : ℕ
+
 -- the bytes under a name; of two files with one name the first counts
 abbrev pub content : List File → List ℕ → Option (List ℕ)
 content files name = option_map (λ f. f.bytes) (find (λ f. bytes_eq f.name name) files)

@@ -132,11 +132,7 @@ impl MemShelf {
 }
 
 impl Shelf for MemShelf {
-    ghost stock = { λ shelf. Some shelf.files };
-
-    ghost faults = { λ shelf. shelf.faults };
-
-    ghost absent = { λ shelf. shelf.absent };
+    ghost seen = { λ shelf. record { stock = Some shelf.files; faults = shelf.faults; absent = shelf.absent } };
 
     /// A call of the list answers `Faulted`; any other answers by the files.
     fn fetch(&mut self, alloc: Global, name: &Text) -> Result<Text, FetchRefusal>
@@ -205,11 +201,9 @@ impl MemPress {
 }
 
 impl Press for MemPress {
-    ghost sent = { λ press. Some press.sent };
+    ghost seen = { λ press. record { sent = Some press.sent; faults = press.faults } };
 
-    ghost faults = { λ press. press.faults };
-
-    /// A call of the list of cuts appends the front of the piece that its cut keeps, and answers
+    /// A call of the list of cuts appends the prefix of the piece that its cut keeps, and answers
     /// `Faulted`; any other appends the piece. `NoMemory` appends nothing.
     fn put(
         &mut self,

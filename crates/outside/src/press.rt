@@ -1,8 +1,7 @@
 //! Where pieces of files are written.
-ghost use Rattle.std.specs.Prelude.{◌≡◌, ◌≤◌, ◌++◌, Option, List, ℕ, [], ◌∷◌, OnOk, OnErr, IsErrOf, codes};
-ghost use Rattle.outside.specs.Sent.{plus, piece_of, PutsCut};
+ghost use Rattle.std.specs.Prelude.{◌≡◌, ◌≤◌, ◌++◌, [], ◌∷◌, OnOk, OnErr, IsErrOf, codes};
+ghost use Rattle.outside.specs.Sent.{plus, piece_of, Pressed, PutsCut};
 ghost use Rattle.outside.specs.Stock.{Rose};
-ghost use Rattle.outside.specs.declared.press.Piece.{Piece};
 ghost use Rattle.outside.specs.declared.press.PutRefusal.TheVariants.{NoMemory as no_memory};
 
 use fx_num::{NoMemory, Text};
@@ -31,7 +30,7 @@ pub struct Piece {
 /// Why a piece was not put as a whole.
 #[derive(Clone, Copy, Debug, PartialEq, Eq, Error)]
 pub enum PutRefusal {
-    /// The device failed. A front of the piece may have been written.
+    /// The device failed. A prefix of the piece may have been written.
     #[error("the piece cannot be written")]
     Faulted,
     /// Out of memory. Nothing was written.
@@ -49,18 +48,16 @@ impl From<NoMemory> for PutRefusal {
 
 /// A writer of files, piece by piece.
 ///
-/// `sent` is the pieces so far, or `None` where the press does not tell. `faults` counts its
+/// Contracts see the pieces so far, `sent`, or `None` where the press does not tell. `faults` counts its
 /// failures: it never falls, and stays at any other answer.
 pub trait Press {
-    ghost sent: { Self → Option (List Piece) };
-
-    ghost faults: { Self → ℕ };
+    ghost seen: { Self → Pressed };
 
     /// Writes a piece: to a file that starts anew with it where `fresh`, else to the file's end.
     ///
     /// # Errors
     ///
-    /// `Faulted` only where `faults` rose; then a front of the bytes was written. `NoMemory`, and
+    /// `Faulted` only where `faults` rose; then a prefix of the bytes was written. `NoMemory`, and
     /// then nothing was written.
     fn put(
         &mut self,
@@ -69,12 +66,12 @@ pub trait Press {
         fresh: bool,
         bytes: &[u8],
     ) -> Result<(), PutRefusal>
-        ensures ok { OnOk result (sent self.new ≡ plus (sent self.old) (piece_of name.now fresh bytes.now ∷ [])) }
-        ensures faulted { IsErrOf result PutRefusal.Faulted → Rose (faults self.old) (faults self.new) }
-        ensures cut { IsErrOf result PutRefusal.Faulted → PutsCut (sent self.old) (piece_of name.now fresh bytes.now) (sent self.new) }
-        ensures no_memory { IsErrOf result PutRefusal.NoMemory → sent self.new ≡ sent self.old }
-        ensures faults_kept { faults self.old ≤ faults self.new }
-        ensures faults_stay { (IsErrOf result PutRefusal.Faulted → ⊥) → faults self.new ≡ faults self.old };
+        ensures ok { OnOk result ((seen self.new).sent ≡ plus ((seen self.old).sent) (piece_of name.now fresh bytes.now ∷ [])) }
+        ensures faulted { IsErrOf result PutRefusal.Faulted → Rose ((seen self.old).faults) ((seen self.new).faults) }
+        ensures cut { IsErrOf result PutRefusal.Faulted → PutsCut ((seen self.old).sent) (piece_of name.now fresh bytes.now) ((seen self.new).sent) }
+        ensures no_memory { IsErrOf result PutRefusal.NoMemory → (seen self.new).sent ≡ (seen self.old).sent }
+        ensures faults_kept { (seen self.old).faults ≤ (seen self.new).faults }
+        ensures faults_stay { (IsErrOf result PutRefusal.Faulted → ⊥) → (seen self.new).faults ≡ (seen self.old).faults };
 }
 
 /// Appends a copy of a piece to a list of pieces. A refusal leaves the list as it was.

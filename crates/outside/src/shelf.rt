@@ -1,7 +1,6 @@
 //! Where files are read: by name, each as a whole.
-ghost use Rattle.std.specs.Prelude.{◌≡◌, ◌<◌, ◌≤◌, Option, List, ℕ, length, IfOk, IfErr, IfSome, IfNone, IsErrOf, IsErrAnd, IsTrue};
-ghost use Rattle.outside.specs.Stock.{content, is_absence, Fetches, Rose, IsAbove};
-ghost use Rattle.outside.specs.declared.files.File.{File};
+ghost use Rattle.std.specs.Prelude.{◌≡◌, ◌<◌, ◌≤◌, ℕ, length, IfOk, IfErr, IfSome, IfNone, IsErrOf, IsErrAnd, IsTrue};
+ghost use Rattle.outside.specs.Stock.{content, is_absence, Fetches, Rose, IsAbove, Shelved};
 ghost use Rattle.outside.specs.declared.shelf.FetchRefusal.TheVariants.{NoMemory as no_memory};
 
 use fx_num::{NoMemory, Text};
@@ -52,15 +51,11 @@ impl From<NoMemory> for FetchRefusal {
 
 /// Files that can be read by their names.
 ///
-/// `stock` is what stands on the shelf, or `None` where the shelf does not tell. `faults` counts
+/// Contracts see what stands on the shelf, the `stock`, or `None` where the shelf does not tell. `faults` counts
 /// its failures, and `absent` the files that were missing or too long: the counts never fall, and
 /// stay at any other answer.
 pub trait Shelf {
-    ghost stock: { Self → Option (List File) };
-
-    ghost faults: { Self → ℕ };
-
-    ghost absent: { Self → ℕ };
+    ghost seen: { Self → Shelved };
 
     /// The bytes of the file with this name.
     ///
@@ -70,15 +65,15 @@ pub trait Shelf {
     /// [`MAX_FETCHED`] bytes: exactly there, where the stock is told, and else only where `absent`
     /// rose. `Faulted` only where `faults` rose. `NoMemory`.
     fn fetch(&mut self, alloc: Global, name: &Text) -> Result<Text, FetchRefusal>
-        ensures stays { stock self.new ≡ stock self.old }
-        ensures told { IfSome (stock self.old) (λ files. Fetches (content files name.now) result) }
+        ensures stays { (seen self.new).stock ≡ (seen self.old).stock }
+        ensures told { IfSome ((seen self.old).stock) (λ files. Fetches (content files name.now) result) }
         ensures within_limit { IfOk result (λ bytes. length bytes ≤ MAX_FETCHED) }
         ensures above_limit { IfErr result IsAbove }
-        ensures missing { IsErrOf result FetchRefusal.Missing → IfNone (stock self.old) (Rose (absent self.old) (absent self.new)) }
-        ensures too_long { (n : ℕ) → IsErrOf result (FetchRefusal.TooLong n) → IfNone (stock self.old) (Rose (absent self.old) (absent self.new)) }
-        ensures faulted { IsErrOf result FetchRefusal.Faulted → Rose (faults self.old) (faults self.new) }
-        ensures faults_kept { faults self.old ≤ faults self.new }
-        ensures absent_kept { absent self.old ≤ absent self.new }
-        ensures faults_stay { (IsErrOf result FetchRefusal.Faulted → ⊥) → faults self.new ≡ faults self.old }
-        ensures absent_stay { (IsErrAnd result (λ why. IsTrue (is_absence why)) → ⊥) → absent self.new ≡ absent self.old };
+        ensures missing { IsErrOf result FetchRefusal.Missing → IfNone ((seen self.old).stock) (Rose ((seen self.old).absent) ((seen self.new).absent)) }
+        ensures too_long { (n : ℕ) → IsErrOf result (FetchRefusal.TooLong n) → IfNone ((seen self.old).stock) (Rose ((seen self.old).absent) ((seen self.new).absent)) }
+        ensures faulted { IsErrOf result FetchRefusal.Faulted → Rose ((seen self.old).faults) ((seen self.new).faults) }
+        ensures faults_kept { (seen self.old).faults ≤ (seen self.new).faults }
+        ensures absent_kept { (seen self.old).absent ≤ (seen self.new).absent }
+        ensures faults_stay { (IsErrOf result FetchRefusal.Faulted → ⊥) → (seen self.new).faults ≡ (seen self.old).faults }
+        ensures absent_stay { (IsErrAnd result (λ why. IsTrue (is_absence why)) → ⊥) → (seen self.new).absent ≡ (seen self.old).absent };
 }

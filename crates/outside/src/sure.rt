@@ -35,11 +35,7 @@ impl SureShelf {
 }
 
 impl Shelf for SureShelf {
-    ghost stock = { λ files. Some files };
-
-    ghost faults = { λ _. 0 };
-
-    ghost absent = { λ _. 0 };
+    ghost seen = { λ files. record { stock = Some files; faults = 0; absent = 0 } };
 
     fn fetch(&mut self, alloc: Global, name: &Text) -> Result<Text, FetchRefusal> {
         self.files.fetch(alloc, name)
@@ -80,9 +76,7 @@ impl SurePress {
 }
 
 impl Press for SurePress {
-    ghost sent = { λ pieces. Some pieces };
-
-    ghost faults = { λ _. 0 };
+    ghost seen = { λ pieces. record { sent = Some pieces; faults = 0 } };
 
     fn put(
         &mut self,

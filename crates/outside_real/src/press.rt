@@ -39,9 +39,7 @@ impl<R: Files + Print + Drop> FilePress<R> {
 }
 
 impl<R: Files + Print + Drop> Press for FilePress<R> {
-    ghost sent = { λ _. None };
-
-    ghost faults = { λ faults. faults };
+    ghost seen = { λ faults. record { sent = None; faults = faults } };
 
     /// Writes a piece. A name that is no UTF-8 text is `Faulted`, as each failure is but want of
     /// memory before the first byte.

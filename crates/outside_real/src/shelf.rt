@@ -60,11 +60,7 @@ impl<R: Files + Drop> FileShelf<R> {
 }
 
 impl<R: Files + Drop> Shelf for FileShelf<R> {
-    ghost stock = { λ _. None };
-
-    ghost faults = { λ counts. counts.faults };
-
-    ghost absent = { λ counts. counts.absent };
+    ghost seen = { λ counts. record { stock = None; faults = counts.faults; absent = counts.absent } };
 
     /// Reads a file. A name that is no UTF-8 text is `Missing`; any failure but want of memory and
     /// that there is no such file is `Faulted`.

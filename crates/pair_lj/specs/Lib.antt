@@ -1,3 +1,4 @@
 pub mod PairTerm
+pub mod Pairs
 pub mod Places
 pub mod Table

@@ -1,8 +1,8 @@
 //! Laws of the pair term and of the table. Each function is empty: its clause is the law.
 ghost use Rattle.std.specs.Prelude.{◌≡◌, ◌^◌, ◌≤◌, ℕ, ℤ, List, IfOk, IfSome};
 ghost use Rattle.pair_lj.specs.PairTerm.{pair_term, weighted_term, force_along, dot, IsOpposite, AreOpposite, HasModerateForce};
-ghost use Rattle.pair_lj.specs.Table.{coefficients_at};
-ghost use Rattle.pair_lj.specs.declared.table.PairTable.{PairTable};
+ghost use Rattle.pair_lj.specs.Pairs.{numbers_at};
+ghost use Rattle.pair_lj.specs.declared.pair_settings.PairCoefficients.{PairCoefficients};
 
 /// The pair term is odd: at the opposite displacement it is of the same kind, with the negative
 /// force, component by component, the same energy and the same virial.
@@ -26,5 +26,5 @@ pub fn pair_terms_are_bounded()
 
 /// A pair of types has no order.
 pub fn pairs_have_no_order()
-    ensures { (t : PairTable) (i j : ℕ) → coefficients_at t i j ≡ coefficients_at t j i }
+    ensures { (pairs : List PairCoefficients) (i j : ℕ) → numbers_at pairs i j ≡ numbers_at pairs j i }
 {}

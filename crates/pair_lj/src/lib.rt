@@ -8,6 +8,7 @@ mod force;
 mod guess;
 mod laws;
 mod magnitudes;
+mod pair_settings;
 mod plain;
 mod quick;
 mod signs;
@@ -20,5 +21,6 @@ pub use guess::Guess;
 pub use laws::{
     a_whole_weight_changes_nothing, pair_term_is_odd, pair_terms_are_bounded, pairs_have_no_order,
 };
+pub use pair_settings::{PairCoefficients, PairSettings};
 pub use table::PairTable;
 pub use unset::Unset;

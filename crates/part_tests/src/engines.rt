@@ -1,7 +1,6 @@
 //! Worked steps: wrapping, references, room, faults, forces, whole steps, against numbers worked by
 //! hand or by a second program (tools/serial_step.py).
 ghost use Rattle.std.specs.Prelude.{◌≡◌, ◌^◌, ◌<◌, ◌≤◌, ◌≤ℤ◌, [], ◌∷◌, pos, neg_ℤ, true, All, IfOk};
-ghost use Rattle.pair_lj.specs.Table.{kinds_of};
 ghost use Rattle.step_engine.specs.Ranges.{AreRules, IsForceField, IsMovable, IsPlaced, IsSkin, IsState, IsTimestep, IsWithin};
 
 use crate::fixes::rise;
@@ -86,7 +85,7 @@ fn is_within(v: &V3, bound: u64) -> bool
 
 /// Whether an atom may stand in a box, over one type.
 fn is_placed(pairs: &PairTable, cell: &SimBox, atom: &Atom) -> bool
-    requires { kinds_of pairs.now ≡ 1 }
+    requires { pairs.now.kinds ≡ 1 }
     ensures { result ≡ true → IsPlaced pairs.now cell.now.sides atom.now }
 {
     let x = atom.x;
@@ -105,7 +104,7 @@ fn is_movable(atom: &Atom) -> bool
 
 /// Whether all atoms may.
 fn are_sound(pairs: &PairTable, cell: &SimBox, atoms: &[Atom]) -> bool
-    requires { kinds_of pairs.now ≡ 1 }
+    requires { pairs.now.kinds ≡ 1 }
     ensures placed { result ≡ true → All (IsPlaced pairs.now cell.now.sides) atoms.now }
     ensures movable { result ≡ true → All (IsMovable (pos (2 ^ 24) ∷ [])) atoms.now }
 {
@@ -120,7 +119,7 @@ fn are_sound(pairs: &PairTable, cell: &SimBox, atoms: &[Atom]) -> bool
 /// The force field of one type, with epsilon and sigma 1.
 fn field(alloc: Global) -> Result<ForceField, Fail>
     ensures field { IfOk result IsForceField }
-    ensures kinds { IfOk result (λ f. kinds_of f.pairs ≡ 1) }
+    ensures kinds { IfOk result (λ f. f.pairs.kinds ≡ 1) }
 {
     let mut pairs = PairTable::new(alloc, 1, CUT)?;
     pairs.set(1, 1, ONE, ONE, CUT);

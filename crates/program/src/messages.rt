@@ -49,42 +49,21 @@ ${name} stand for the value of a variable. This version runs these commands:
   boundary X Y Z                    run N [upto]
   atom_style atomic                 thermo N
   processors X Y Z                  print TEXT
-  read_data FILE                    log FILE | none
-  mass TYPES MASS                   variable NAME index VALUE ..
-  pair_style lj/cut CUTOFF          variable NAME loop N [M]
-  pair_coeff TYPES TYPES            variable NAME string TEXT
-    EPSILON SIGMA [CUTOFF]          variable NAME delete
-  neighbor SKIN bin | nsq | multi   clear
-  comm_modify cutoff CUTOFF         quit
-  fix ID all nve                    newton, atom_modify, echo,
-  unfix ID                            neigh_modify (no effect)
+  lattice STYLE RHO                 log FILE | none
+  region ID SHAPE ..                variable NAME index VALUE ..
+  create_box N REGION               variable NAME loop N [M]
+  create_atoms TYPE box             variable NAME string TEXT
+    | region ID | single X Y Z      variable NAME delete
+  read_data FILE                    neighbor SKIN bin | nsq | multi
+  mass TYPES MASS                   comm_modify cutoff CUTOFF
+  pair_style lj/cut CUTOFF          fix ID all nve
+  pair_coeff TYPES TYPES            unfix ID
+    EPSILON SIGMA [CUTOFF]          clear, quit
+  newton, atom_modify, echo, neigh_modify (no effect)
 
-All other commands of the language are read, and end the run with status 9. The
-data file of read_data has these lines, with one space between words:
-
-  any text
-
-  N atoms
-  1 atom types
-  XLO XHI xlo xhi
-  YLO YHI ylo yhi
-  ZLO ZHI zlo zhi
-
-  Masses
-
-  1 MASS
-
-  Atoms
-
-  ID 1 X Y Z       one such line for each atom
-
-  Velocities
-
-  ID VX VY VZ      one such line for each atom
-
-The velocities may be left out, with the two lines before them, and are then 0.
-Where N is 0, the file ends with the mass. Each line ends with a line feed, the
-last one too, and there are no comments.
+All other commands of the language are read, and end the run with status 9. Data
+files have the form that LAMMPS reads and writes: header lines, and sections
+Masses, Pair Coeffs, Atoms and Velocities.
 
 exit status:
   0   the script was run to its end, or to quit
@@ -96,8 +75,8 @@ exit status:
   4   a file or the standard output could not be written
   6   out of memory
   7   the command line is wrong
-  9   a command, or the form of a data file, is for a later version: standard
-      error says at which line of the script
+  9   a command is for a later version: standard error says at which line of
+      the script
 ";
 
 /// The text on how to use the program.
@@ -147,7 +126,7 @@ pub(crate) fn explain(
     writeln!(to, "fxlmp: {cause}")
 }
 
-/// A line of a script with a command that is for a later version, or the form of its data file is.
+/// A line of a script with a command that is for a later version.
 #[derive(Clone, Copy)]
 struct LaterCommand<'a> {
     /// The name of the script.
@@ -162,7 +141,7 @@ impl fmt::Display for LaterCommand<'_> {
         match str::from_utf8(self.file.as_bytes()) {
             Ok(file) => write!(
                 f,
-                "{file}:{line}: this command, or the form of its data file, is for a later version (fxlmp --help shows what runs)"
+                "{file}:{line}: this command is for a later version (fxlmp --help shows what runs)"
             ),
             Err(_) => write!(f, "the command at line {line} is for a later version"),
         }

@@ -1,2 +1,4 @@
+pub mod DataLemmas
+pub mod LatticeLemmas
 pub mod SoundLemmas
 pub mod Types

@@ -12,27 +12,20 @@ use Rattle.command_words.specs.declared.ranges.KindRange.{KindRange}
 use Rattle.command_words.specs.Limits.{IsCutoff}
 use Rattle.meaning.specs.declared.code.Code.{Code}
 use Rattle.meaning.specs.declared.code.Code.TheVariants.{BadValue}
-use Rattle.meaning.specs.declared.pair_settings.PairCoefficients.{PairCoefficients}
 use Rattle.meaning.specs.declared.refusal.SettingsRefusal.{SettingsRefusal}
 use Rattle.meaning.specs.declared.settings.Body.{Body}
 use Rattle.meaning.specs.declared.settings.Settings.{Settings}
 use Rattle.meaning.specs.Answers.{Answers}
-use Rattle.meaning.specs.Masses.{is_beyond, mass_of_body, masses_from}
-use Rattle.meaning.specs.Pairs.{are_covered, given, is_covered, is_uncovered, of_types, replaced, set_all, set_pair, set_with, types_from, types_in, with_cutoff, with_cutoffs}
-use Rattle.meaning.specs.Sound.{IsOfSetup, IsSound, IsSoundAtom, IsSoundBody, IsSoundMass, IsSoundPair}
+use Rattle.meaning.specs.MassesGroups.{is_beyond, mass_of_body, masses_from}
+use Rattle.meaning.specs.Pairs.{given, is_uncovered, of_types, set_all, set_with, types_in}
+use Rattle.meaning.specs.Sound.{IsOfSetup, IsSound, IsSoundAtom, IsSoundBody, IsSoundMass}
+use Rattle.pair_lj.specs.declared.pair_settings.PairCoefficients.{PairCoefficients}
+use Rattle.pair_lj.specs.Pairs.{IsSoundPair, are_covered, is_covered, set_pair, types_from, with_cutoff, with_cutoffs}
+use Rattle.pair_lj.proofs.SetLemmas.{set_pair_sound}
 
 cond_both : {X : Type 0} (P : X → Type 0) (b : Bool) (x y : X) → P x → P y → P (cond b x y)
 cond_both P true x y h g = h
 cond_both P false x y h g = g
-
--- a pair more, or another in its place
-replaced_sound : (p old : PairCoefficients) → IsSoundPair p → IsSoundPair old → IsSoundPair (replaced p old)
-replaced_sound p old h g = cond_both IsSoundPair _ p old h g
-
-set_pair_sound : (p : PairCoefficients) (pairs : List PairCoefficients) → IsSoundPair p → All IsSoundPair pairs → All IsSoundPair (set_pair p pairs)
-set_pair_sound p pairs h g =
-    let each : All (λ q. IsSoundPair (replaced p q)) pairs = All-weaker IsSoundPair (λ q. IsSoundPair (replaced p q)) (λ q k. replaced_sound p q h k) pairs g in
-    cond_both (All IsSoundPair) _ (map (replaced p) pairs) (pairs ++ p ∷ []) (All-map IsSoundPair (replaced p) pairs each) (All-push IsSoundPair pairs p g h)
 
 -- types of a box
 abbrev pub IsKind : ℕ → Type 0
@@ -193,6 +186,8 @@ body_sound m b h g =
       few = h.few;
       atoms = subst (λ (n : ℕ). All (IsSoundAtom b.sides n) b.atoms) (sym same) h.atoms;
       rising = h.rising;
+      bonds = h.bonds;
+      angles = h.angles;
     }
 
 -- what is in the box is as sound as before, and has the same sides

@@ -1,6 +1,6 @@
 -- The types of a range, one by one.
 use Rattle.std.proofs.Common.{arith, ◌≡◌, ◌<◌, ◌+◌, ◌-◌, ◌++◌, ◌∷◌, [], ◌∙◌, ap, append_assoc, suc, sym, List, ℕ}
-use Rattle.meaning.specs.Pairs.{types_from}
+use Rattle.pair_lj.specs.Pairs.{types_from}
 
 types_more : (kind end : ℕ) → kind < end → types_from kind (end - kind) ≡ kind ∷ types_from (kind + 1) (end - (kind + 1))
 types_more kind end below =

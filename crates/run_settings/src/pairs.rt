@@ -2,12 +2,12 @@
 ghost use Rattle.box_geo.specs.declared.limits.TheConstants.{MAX_CUTOFF, MAX_EPSILON, MAX_SIGMA};
 ghost use Rattle.command_words.specs.Limits.{IsCutoff};
 ghost use Rattle.meaning.specs.Answers.{Answers, Decides};
-ghost use Rattle.meaning.specs.Masses.{is_beyond};
+ghost use Rattle.meaning.specs.MassesGroups.{is_beyond};
 ghost use Rattle.meaning.specs.Pairs.{given, is_uncovered, of_types, pair_coeff, pair_style, set_all, set_with, types_in};
 ghost use Rattle.meaning.specs.Sound.{IsSound};
 ghost use Rattle.std.specs.Prelude.{◌≡◌, ◌≤◌, ◌≤ℤ◌, ◌<ℤ◌, pos, IfOk, IfSome, OnOk};
 
-use crate::masses::{is_beyond, last_of};
+use crate::masses_groups::{is_beyond, last_of};
 use box_geo::limits::MAX_KINDS;
 use command_words::{KindRange, PairCoeff};
 use fx_num::{NoMemory, Seq};

@@ -48,9 +48,10 @@ pub fn set_boundary(settings: &mut Settings, periodic: [bool; 3]) -> Result<(), 
     Ok(())
 }
 
-/// `atom_style`, before a box.
+/// `atom_style`, before a box. Styles with bonds are not built yet.
 pub fn set_atom_style(settings: &mut Settings, style: AtomStyle) -> Result<(), Code>
     requires sound { IsSound settings.old }
+    requires built { style ≡ AtomStyle.Atomic }
     ensures is { Decides (atom_style style settings.old) result settings.old settings.new }
     ensures sound { OnOk result (IsSound settings.new) }
 {

@@ -11,21 +11,12 @@ use Rattle.meaning.specs.declared.code.Code.{Code}
 use Rattle.meaning.specs.declared.settings.Body.{Body}
 use Rattle.meaning.specs.declared.settings.Settings.{Settings}
 use Rattle.meaning.specs.Fixes.{fixes_over, ids_of, moves_twice}
-use Rattle.meaning.specs.Pairs.{are_all_set, reach_of, types_from}
+use Rattle.meaning.specs.Pairs.{reach_of}
+use Rattle.pair_lj.specs.Pairs.{are_all_had}
+use Rattle.pair_lj.proofs.TypeLemmas.{both_true}
 use Rattle.meaning.specs.Runs.{is_ready, run_code}
 use Rattle.script_runs.specs.Engines.{IsReady}
-use Rattle.script_runs.proofs.TableLemmas.{both_true}
 use Rattle.serial_step.specs.Room.{edge_too_small}
-
--- types one by one
-types_more : (f : ℕ → Bool) (kind end : ℕ) → kind < end → list_all f (types_from kind (end - kind)) ≡ (f kind && list_all f (types_from (kind + 1) (end - (kind + 1))))
-types_more f kind end below =
-    let left : end - kind ≡ suc (end - (kind + 1)) = omega arith in
-    ap (λ (n : ℕ). list_all f (types_from kind n)) left
-
-pub types_step : (f : ℕ → Bool) (kind end : ℕ) (whole : Bool) → kind < end → f kind ≡ true → list_all f (types_from kind (end - kind)) ≡ whole → list_all f (types_from (kind + 1) (end - (kind + 1))) ≡ whole
-types_step f kind end whole below passes is =
-    sym (types_more f kind end below ∙ ap (λ (b : Bool). b && list_all f (types_from (kind + 1) (end - (kind + 1)))) passes) ∙ is
 
 -- no fix of these moves an atom more than once
 few_movers : (atoms : List Atom) (fixes : List NewFix) (id : ℕ) → movers (fixes_over atoms fixes) id ≤ length fixes
@@ -102,6 +93,6 @@ is_all_ready upto n s b e =
     let later = (not_one _ _ _ e).1 in
     let all = not_not (is_ready s b) (not_one _ _ _ later).0 in
     let room = not_not (is_none (edge_too_small b.sides (pos (reach_of s.force) +ℤ s.force.skin))) (not_one _ _ _ (not_one _ _ _ later).1).0 in
-    let first = both_true (not (is_none s.force.pair_style) && list_all (λ m. int_lt (pos 0) m) b.mass) (are_all_set (length b.mass) s.force.pairs) all in
+    let first = both_true (not (is_none s.force.pair_style) && list_all (λ m. int_lt (pos 0) m) b.mass) (are_all_had (length b.mass) s.force.pairs) all in
     let style = both_true (not (is_none s.force.pair_style)) (list_all (λ m. int_lt (pos 0) m) b.mass) first.0 in
     record { style = some_style s.force.pair_style style.0; massive = style.1; set = first.1; room = none_small _ room }

@@ -1,5 +1,4 @@
 pub mod DoesLemmas
-pub mod FieldLemmas
 pub mod IdLemmas
 pub mod JudgeLemmas
 pub mod KeyLemmas

@@ -22,23 +22,23 @@ use Rattle.meaning.specs.declared.settings.Body.{Body}
 use Rattle.meaning.specs.declared.settings.Settings.{Settings}
 use Rattle.meaning.specs.declared.uses.NameUse.{NameUse}
 use Rattle.meaning.specs.Fixes.{fixes_over, ids_of}
-use Rattle.meaning.specs.Pairs.{are_all_set, reach_of}
+use Rattle.meaning.specs.Pairs.{reach_of}
 use Rattle.meaning.specs.Runs.{Ran, run_of, setting_of}
 use Rattle.meaning.specs.Sound.{IsOfSetup, IsSoundAtom, IsSoundBody, IsSoundForce, IsSoundMass}
 use Rattle.outside.specs.declared.press.Piece.{Piece}
-use Rattle.pair_lj.specs.declared.table.PairTable.{PairTable}
-use Rattle.pair_lj.specs.Table.{kinds_of}
+use Rattle.pair_lj.specs.declared.pair_settings.PairCoefficients.{PairCoefficients}
+use Rattle.pair_lj.specs.Pairs.{are_all_had}
+use Rattle.pair_lj.specs.Table.{Table}
+use Rattle.pair_lj.proofs.TypeLemmas.{pair_is_had}
 use Rattle.script_runs.specs.Engines.{IsEngineOf, IsTableOf}
 use Rattle.script_runs.specs.Parts.{Makes}
-use Rattle.script_runs.proofs.FieldLemmas.{run_of-alike}
 use Rattle.script_runs.proofs.IdLemmas.{run_of_ids}
-use Rattle.script_runs.proofs.TableLemmas.{pair_is_set, some_reach}
-use Rattle.serial_step.specs.Forces.{field_of as table_field}
-use Rattle.serial_step.specs.Pairs.{AreOfKinds, IsOfKinds, IsReach}
+use Rattle.script_runs.proofs.TableLemmas.{all_reached, some_reach}
+use Rattle.serial_step.specs.Forces.{field_of}
+use Rattle.serial_step.specs.Pairs.{IsReach}
 use Rattle.serial_step.specs.Rebuild.{positions}
 use Rattle.serial_step.specs.Room.{edge_too_small}
 use Rattle.serial_step.specs.Step.{Setting, State}
-use Rattle.serial_step.proofs.FieldLemmas.{with_field}
 use Rattle.step_engine.specs.Engine.{World, setting_of as engine_setting, world_of}
 use Rattle.step_engine.specs.Ranges.{AreAtoms, AreRules, HasMass, IsForceField, IsMovable, IsPlaced, IsState}
 use Rattle.step_engine.specs.declared.rules.ForceField.{ForceField}
@@ -53,20 +53,20 @@ all_rise atoms fixes rises = All-from_recursion (λ (named : NamedFix). Rises (f
     each (f ∷ fs) = (rises, each fs)
 
 -- a force field of a table of the pairs that are set
-pub field_ready : (kinds : ℕ) (force : Force) (table : PairTable) (rcmax : ℤ) → IsSoundForce force → IsTableOf kinds force table → rcmax ≡ pos (reach_of force) → are_all_set kinds force.pairs ≡ true → 1 ≤ kinds → reach_of force ≤ 2 ^ 28
+pub field_ready : (kinds : ℕ) (force : Force) (table : Table) (rcmax : ℤ) → IsSoundForce force → IsTableOf kinds force table → rcmax ≡ pos (reach_of force) → are_all_had kinds force.pairs ≡ true → 1 ≤ kinds → reach_of force ≤ 2 ^ 28
     → IsForceField record { pairs = table; rcmax = rcmax }
 field_ready kinds force table rcmax sound is reach all some high =
-    let first : IsOfKinds kinds 1 = (omega arith, some) in
-    let low : 0 < reach_of force = some_reach force 1 1 (recursion_from_All _ force.pairs sound.pairs) (pair_is_set kinds force.pairs 1 1 all first first) in
+    let low : 0 < reach_of force = some_reach force 1 1 (recursion_from_All _ force.pairs sound.pairs) (pair_is_had kinds force.pairs 1 1 all (omega arith) some (omega arith) some) in
     record {
       finished = is.finished;
       low = omega (arith, ints, reach);
       high = omega (arith, ints, reach);
-      reach = subst (λ (n : ℕ). IsReach (table_field table) n) (sym (ap unsigned_abs reach)) is.reach;
+      reach = subst (λ (pairs : List PairCoefficients). IsReach (field_of pairs) (unsigned_abs rcmax)) (sym is.pairs_are)
+          (subst (λ (n : ℕ). IsReach (field_of force.pairs) n) (sym (ap unsigned_abs reach)) (all_reached force));
     }
 
 -- atoms of a body are placed, and may be moved
-placed : (table : PairTable) (b : Body) → kinds_of table ≡ length b.mass → IsSoundBody b → All (IsPlaced table b.sides) b.atoms
+placed : (table : Table) (b : Body) → table.kinds ≡ length b.mass → IsSoundBody b → All (IsPlaced table b.sides) b.atoms
 placed table b size sound = λ k d lt.
     let a : IsSoundAtom b.sides (length b.mass) (slice_index_or b.atoms k d) = sound.atoms k d lt in
     record { inside = a.inside; kind = (a.kind_low, omega (arith, a.kind_high, size)); id = a.id_high }
@@ -85,7 +85,7 @@ movable b sound some = λ k d lt.
     let a : IsSoundAtom b.sides (length b.mass) (slice_index_or b.atoms k d) = sound.atoms k d lt in
     record { massive = massive b.mass (slice_index_or b.atoms k d).kind a.kind_low a.kind_high sound.mass some; v = a.v; f = a.f; image = a.image }
 
-pub atoms_ready : (r : Rules) (b : Body) (atoms : List Atom) → kinds_of r.field.pairs ≡ length b.mass → r.cell.sides ≡ b.sides → r.mass ≡ b.mass → atoms ≡ b.atoms → IsSoundBody b → list_all (λ m. int_lt (pos 0) m) b.mass ≡ true → AreAtoms r atoms
+pub atoms_ready : (r : Rules) (b : Body) (atoms : List Atom) → r.field.pairs.kinds ≡ length b.mass → r.cell.sides ≡ b.sides → r.mass ≡ b.mass → atoms ≡ b.atoms → IsSoundBody b → list_all (λ m. int_lt (pos 0) m) b.mass ≡ true → AreAtoms r atoms
 atoms_ready r b atoms size sides mass are sound some =
     subst (λ (list : List Atom). AreAtoms r list) (sym are)
     record {
@@ -122,8 +122,9 @@ has_room s t reach room axis same equal none small =
     cc
 
 -- the engine makes the run that is meant
-setting_same : (s : Settings) (b : Body) (kinds : ℕ) (w : World) (fixes : List NamedFix) → IsEngineOf s.force s.setup.timestep kinds b w → fixes ≡ fixes_over b.atoms s.named.fixes → engine_setting w.rules fixes ≡ with_field (setting_of s b) (table_field w.rules.field.pairs)
+setting_same : (s : Settings) (b : Body) (kinds : ℕ) (w : World) (fixes : List NamedFix) → IsEngineOf s.force s.setup.timestep kinds b w → fixes ≡ fixes_over b.atoms s.named.fixes → engine_setting w.rules fixes ≡ setting_of s b
 setting_same s b kinds w fixes is same =
+    let pairs = is.table.pairs_are in
     let sides = is.sides in
     let dt = is.timestep in
     let mass = is.mass in
@@ -132,19 +133,13 @@ setting_same s b kinds w fixes is same =
     let which : moves fixes ≡ moves (fixes_over b.atoms s.named.fixes) = ap moves same in
     cc
 
-of_kinds : (kinds : ℕ) (b : Body) → kinds ≡ length b.mass → IsSoundBody b → AreOfKinds kinds b.atoms
-of_kinds kinds b size sound =
-    recursion_from_All (λ (a : Atom). IsOfKinds kinds a.kind) b.atoms
-    (λ k d lt. let a : IsSoundAtom b.sides (length b.mass) (slice_index_or b.atoms k d) = sound.atoms k d lt in (a.kind_low, omega (arith, a.kind_high, size)))
-
-pub run_same : (s : Settings) (b : Body) (kinds : ℕ) (w : World) (fixes : List NamedFix) (last : ℕ) → IsEngineOf s.force s.setup.timestep kinds b w → fixes ≡ fixes_over b.atoms s.named.fixes → kinds ≡ length b.mass → IsSoundBody b
+pub run_same : (s : Settings) (b : Body) (kinds : ℕ) (w : World) (fixes : List NamedFix) (last : ℕ) → IsEngineOf s.force s.setup.timestep kinds b w → fixes ≡ fixes_over b.atoms s.named.fixes
     → run_of (engine_setting w.rules fixes) s.output last w.state.step w.state.atoms s.output.uses ≡ run_of (setting_of s b) s.output last b.step b.atoms s.output.uses
-run_same s b kinds w fixes last is same size sound =
+run_same s b kinds w fixes last is same =
     let o = s.output in
     ap (λ (t : Setting). run_of t o last w.state.step w.state.atoms o.uses) (setting_same s b kinds w fixes is same)
-    ∙ ap (λ (n : ℕ). run_of (with_field (setting_of s b) (table_field w.rules.field.pairs)) o last n w.state.atoms o.uses) is.step
-    ∙ ap (λ (atoms : List Atom). run_of (with_field (setting_of s b) (table_field w.rules.field.pairs)) o last b.step atoms o.uses) is.atoms
-    ∙ sym (run_of-alike kinds (setting_of s b) (table_field w.rules.field.pairs) is.table.alike o last b.step b.atoms o.uses (of_kinds kinds b size sound))
+    ∙ ap (λ (n : ℕ). run_of (setting_of s b) o last n w.state.atoms o.uses) is.step
+    ∙ ap (λ (atoms : List Atom). run_of (setting_of s b) o last b.step atoms o.uses) is.atoms
 
 -- a body after a run is sound
 low_ids : (atoms : List Atom) → AllByRecursion (λ (id : ℕ). 1 ≤ id) (ids_of atoms) → AllByRecursion (λ (a : Atom). 1 ≤ a.id) atoms
@@ -166,8 +161,8 @@ still_low b atoms sound same =
 abbrev pub body_in : World → Body
 body_in w = record { step = w.state.step; sides = w.rules.cell.sides; mass = w.rules.mass; atoms = w.state.atoms; bonds = w.bonds; angles = w.angles }
 
-pub body_sound : (b : Body) (w : World) → IsSoundBody b → IsState w.rules w.state → w.rules.cell.sides ≡ b.sides → w.rules.mass ≡ b.mass → kinds_of w.rules.field.pairs ≡ length b.mass → ids_of w.state.atoms ≡ ids_of b.atoms → IsSoundBody (body_in w)
-body_sound b w sound fit sides mass size same =
+pub body_sound : (b : Body) (w : World) → IsSoundBody b → IsState w.rules w.state → w.rules.cell.sides ≡ b.sides → w.rules.mass ≡ b.mass → w.rules.field.pairs.kinds ≡ length b.mass → ids_of w.state.atoms ≡ ids_of b.atoms → w.bonds ≡ b.bonds → w.angles ≡ b.angles → IsSoundBody (body_in w)
+body_sound b w sound fit sides mass size same bonds angles =
     let kinds : length w.rules.mass ≡ length b.mass = ap length mass in
     record {
       step = fit.step;
@@ -190,15 +185,17 @@ body_sound b w sound fit sides mass size same =
             image = m.image;
           };
       rising = subst (λ (ids : List ℕ). Rises ids) (sym same) sound.rising;
+      bonds = bonds ∙ sound.bonds;
+      angles = angles ∙ sound.angles;
     }
 
 -- what the engine makes is what is meant
 pub makes_meant : (s : Settings) (b : Body) (w : World) (fixes : List NamedFix) (last : ℕ) (dt : ℤ) (old new : Option (List Piece)) (before counted : ℕ) (r : Result Unit Refusal) (uses : List NameUse) (state : State) → dt ≡ s.setup.timestep → IsEngineOf s.force dt (length b.mass) b w
-    → fixes ≡ fixes_over b.atoms s.named.fixes → IsSoundBody b → Makes (run_of (engine_setting w.rules fixes) s.output last w.state.step w.state.atoms s.output.uses) old before r new counted uses state
+    → fixes ≡ fixes_over b.atoms s.named.fixes → Makes (run_of (engine_setting w.rules fixes) s.output last w.state.step w.state.atoms s.output.uses) old before r new counted uses state
     → Makes (run_of (setting_of s b) s.output last b.step b.atoms s.output.uses) old before r new counted uses state
-makes_meant s b w fixes last dt old new before counted r uses state timestep is same sound h =
+makes_meant s b w fixes last dt old new before counted r uses state timestep is same h =
     let at : IsEngineOf s.force s.setup.timestep (length b.mass) b w = subst (λ (t : ℤ). IsEngineOf s.force t (length b.mass) b w) timestep is in
-    subst (λ (meant : Ran). Makes meant old before r new counted uses state) (run_same s b (length b.mass) w fixes last at same refl sound) h
+    subst (λ (meant : Ran). Makes meant old before r new counted uses state) (run_same s b (length b.mass) w fixes last at same) h
 
 -- the settings after a run
 with_parts : ℕ → Sides → List ℤ → List Atom → List Bond → List Angle → Body
@@ -231,8 +228,10 @@ pub sound_after : (s : Settings) (b after : Body) (w now : World) (dt : ℤ) →
 sound_after s b after w now dt sound is stands fit ids same =
     let sides : now.rules.cell.sides ≡ b.sides = ap (λ (x : World). x.rules.cell.sides) stands ∙ is.sides in
     let mass : now.rules.mass ≡ b.mass = ap (λ (x : World). x.rules.mass) stands ∙ is.mass in
-    let size : kinds_of now.rules.field.pairs ≡ length b.mass = ap (λ (x : World). kinds_of x.rules.field.pairs) stands ∙ is.table.kinds_are in
-    subst IsSoundBody (sym same) (body_sound b now sound fit sides mass size ids)
+    let size : now.rules.field.pairs.kinds ≡ length b.mass = ap (λ (x : World). x.rules.field.pairs.kinds) stands ∙ is.table.kinds_are in
+    let bonds : now.bonds ≡ b.bonds = ap (λ (x : World). x.bonds) stands ∙ is.bonds in
+    let angles : now.angles ≡ b.angles = ap (λ (x : World). x.angles) stands ∙ is.angles in
+    subst IsSoundBody (sym same) (body_sound b now sound fit sides mass size ids bonds angles)
 
 pub dim_after : (s : Settings) (b after : Body) (w now : World) (dt : ℤ) (kinds : ℕ) → IsOfSetup s.setup b → IsEngineOf s.force dt kinds b w → now ≡ record w { state = now.state } → after ≡ body_in now → IsOfSetup s.setup after
 dim_after s b after w now dt kinds dim is stands same =

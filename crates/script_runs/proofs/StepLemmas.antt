@@ -129,7 +129,7 @@ number_next w before t step is number =
     ap (λ (n : ℕ). n + 1) number ∙ sym (ap (λ (s : State). s.step) (state_next w before t is) ∙ step_number t before.state)
 
 -- what set-up makes of an engine that is new
-pub set_up_fault : (r : Rules) (fixes : List NamedFix) (step : ℕ) (atoms : List Atom) → (set_up (setting_of r fixes) step atoms).fault ≡ forces_fault (field_of r.field.pairs) r.cell.sides atoms
+pub set_up_fault : (r : Rules) (fixes : List NamedFix) (step : ℕ) (atoms : List Atom) → (set_up (setting_of r fixes) step atoms).fault ≡ forces_fault (field_of r.field.pairs.pairs) r.cell.sides atoms
 unfolding set_up
 set_up_fault r fixes step atoms = refl
 
@@ -154,7 +154,7 @@ set_up_state t s references builds =
     ap (λ (x : List (List ℤ)). state_with s.step (with_forces t.field t.sides s.atoms) x s.builds) references
     ∙ ap (λ (n : ℕ). state_with s.step (with_forces t.field t.sides s.atoms) (positions s.atoms) n) builds
 
-pub set_up_world : (w before : World) (fixes : List NamedFix) → w ≡ with_atoms before (with_forces (field_of before.rules.field.pairs) before.rules.cell.sides before.state.atoms) → before.state.references ≡ positions before.state.atoms → before.state.builds ≡ 0 → w ≡ record before { state = (set_up (setting_of before.rules fixes) before.state.step before.state.atoms).state }
+pub set_up_world : (w before : World) (fixes : List NamedFix) → w ≡ with_atoms before (with_forces (field_of before.rules.field.pairs.pairs) before.rules.cell.sides before.state.atoms) → before.state.references ≡ positions before.state.atoms → before.state.builds ≡ 0 → w ≡ record before { state = (set_up (setting_of before.rules fixes) before.state.step before.state.atoms).state }
 set_up_world w before fixes is references builds =
     is ∙ ap (λ (s : State). with_state before s) (set_up_state (setting_of before.rules fixes) before.state references builds)
 

@@ -1,30 +1,22 @@
 -- What the engine of a run has from settings.
-use Rattle.std.specs.Prelude.{◌≡◌, ℕ, ℤ, pos, ◌+ℤ◌, true, int_lt, unsigned_abs, Option, None, IsSome, length}
+use Rattle.std.specs.Prelude.{◌≡◌, ℕ, ℤ, pos, ◌+ℤ◌, true, int_lt, unsigned_abs, None, IsSome, length}
 use Rattle.std.specs.List.{list_all}
-use Rattle.std.specs.Option.{option_map}
 use Rattle.meaning.specs.declared.force.Force.{Force}
 use Rattle.meaning.specs.declared.settings.Body.{Body}
 use Rattle.meaning.specs.declared.settings.Settings.{Settings}
-use Rattle.meaning.specs.Pairs.{are_all_set, field_of, reach_of}
-use Rattle.pair_lj.specs.declared.table.PairTable.{PairTable}
-use Rattle.pair_lj.specs.Table.{IsFinished, coefficients_at, kinds_of}
-use Rattle.serial_step.specs.Forces.{PairNumbers, numbers_of, field_of as table_field}
-use Rattle.serial_step.specs.Pairs.{AreAlike, IsReach}
+use Rattle.meaning.specs.Pairs.{reach_of}
+use Rattle.pair_lj.specs.Pairs.{are_all_had}
+use Rattle.pair_lj.specs.Table.{IsFinished, Table}
 use Rattle.serial_step.specs.Rebuild.{positions}
 use Rattle.serial_step.specs.Room.{edge_too_small}
 use Rattle.step_engine.specs.Engine.{World}
 use Rattle.step_engine.specs.Ranges.{AreRules, IsState}
 
--- what a table has for two types
-abbrev pub found_in : PairTable → ℕ → ℕ → Option PairNumbers
-found_in table i j = option_map numbers_of (coefficients_at table i j)
-
--- a finished table of so many types has the pairs that are set, and none beyond the reach
-pub record IsTableOf (kinds : ℕ) (force : Force) (table : PairTable) : Type 0 where
+-- a finished table of so many types has the pairs that are set
+pub record IsTableOf (kinds : ℕ) (force : Force) (table : Table) : Type 0 where
   pub finished : IsFinished table
-  pub kinds_are : kinds_of table ≡ kinds
-  pub alike : AreAlike kinds (field_of force) (table_field table)
-  pub reach : IsReach (table_field table) (reach_of force)
+  pub kinds_are : table.kinds ≡ kinds
+  pub pairs_are : table.pairs ≡ force.pairs
 
 -- an engine that is new stands in this body, under these forces and timestep
 pub record IsEngineOf (force : Force) (dt : ℤ) (kinds : ℕ) (b : Body) (w : World) : Type 0 where
@@ -47,5 +39,5 @@ pub record IsEngineOf (force : Force) (dt : ℤ) (kinds : ℕ) (b : Body) (w : W
 pub record IsReady (s : Settings) (b : Body) : Type 0 where
   pub style : IsSome s.force.pair_style
   pub massive : list_all (λ m. int_lt (pos 0) m) b.mass ≡ true
-  pub set : are_all_set (length b.mass) s.force.pairs ≡ true
+  pub set : are_all_had (length b.mass) s.force.pairs ≡ true
   pub room : edge_too_small b.sides (pos (reach_of s.force) +ℤ s.force.skin) ≡ None

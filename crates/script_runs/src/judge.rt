@@ -3,16 +3,16 @@ ghost use Rattle.std.specs.Prelude.{◌≡◌, ◌≤◌, ◌^◌, ◌+ℤ◌, i
 ghost use Rattle.box_geo.specs.Sides.{IsSound};
 ghost use Rattle.std.specs.List.{list_all};
 ghost use Rattle.meaning.specs.Fixes.{moves_twice};
-ghost use Rattle.meaning.specs.Pairs.{are_all_set, are_set_with, reach_of, types_from};
+ghost use Rattle.meaning.specs.Pairs.{reach_of};
 ghost use Rattle.meaning.specs.Runs.{is_ready, last_step, run_code};
 ghost use Rattle.meaning.specs.Sound.{IsSoundBody, IsSoundForce};
 ghost use Rattle.serial_step.specs.Room.{edge_too_small};
 
 use crate::parts::reach_of;
-use box_geo::limits::{MAX_KINDS, MAX_STEP};
+use box_geo::limits::MAX_STEP;
 use box_geo::{Atom, Sides, SimBox};
 use command_words::NewFix;
-use meaning::{Body, Code, Force, PairSettings, Settings};
+use meaning::{Body, Code, Force, Settings};
 use step_engine::edge_too_small;
 
 /// Why a run over a body is refused, in the order of judgement.
@@ -71,7 +71,7 @@ fn is_ready(settings: &Settings, body: &Body) -> bool
 {
     settings.force.pair_style.is_some()
         && have_mass(body.mass.as_slice())
-        && are_all_set(&settings.force.pairs, body.mass.len() as u8)
+        && settings.force.pairs.are_all_had(body.mass.len() as u8)
 }
 
 /// Whether each type has a mass.
@@ -80,33 +80,6 @@ fn have_mass(masses: &[i64]) -> bool
 {
     for mass in masses {
         if *mass <= 0 {
-            return false;
-        }
-    }
-    true
-}
-
-/// Whether each pair of so many types is set.
-#[tactic(auto, unfolding(meaning::specs::Pairs::are_all_set))]
-fn are_all_set(pairs: &PairSettings, kinds: u8) -> bool
-    requires { kinds ≤ MAX_KINDS }
-    ensures { result ≡ are_all_set kinds pairs.now }
-{
-    for i in 1..kinds + 1 {
-        if !are_set_with(pairs, i, kinds) {
-            return false;
-        }
-    }
-    true
-}
-
-/// Whether a type is set with each of so many.
-fn are_set_with(pairs: &PairSettings, i: u8, kinds: u8) -> bool
-    requires { kinds ≤ MAX_KINDS }
-    ensures { result ≡ are_set_with pairs.now i (types_from 1 kinds) }
-{
-    for j in 1..kinds + 1 {
-        if !pairs.is_set(i, j) {
             return false;
         }
     }

@@ -30,11 +30,11 @@ pub(crate) fn show_first<P: Press>(
 ) -> Result<(), PutRefusal>
     requires columns { columns.now ≡ style_one }
     requires shown { IsShown engine.now tally.now }
-    ensures shows { Shows (first_shown (setting_of engine.now.rules []) output.old engine.now.state (sums_in tally.now) output.old.uses) (P.sent press.old) result (P.sent press.new) output.new.uses }
+    ensures shows { Shows (first_shown (setting_of engine.now.rules []) output.old engine.now.state (sums_in tally.now) output.old.uses) (P.seen press.old).sent result (P.seen press.new).sent output.new.uses }
     ensures others { output.new ≡ record output.old { uses = output.new.uses } }
-    ensures cause { IsErrOf result PutRefusal.Faulted → Rose (P.faults press.old) (P.faults press.new) }
-    ensures kept { P.faults press.old ≤ P.faults press.new }
-    ensures stays { (IsErrOf result PutRefusal.Faulted → ⊥) → P.faults press.new ≡ P.faults press.old }
+    ensures cause { IsErrOf result PutRefusal.Faulted → Rose (P.seen press.old).faults (P.seen press.new).faults }
+    ensures kept { (P.seen press.old).faults ≤ (P.seen press.new).faults }
+    ensures stays { (IsErrOf result PutRefusal.Faulted → ⊥) → (P.seen press.new).faults ≡ (P.seen press.old).faults }
 {
     match show_header(alloc, columns, output, press) {
         Ok(()) => {}
@@ -55,11 +55,11 @@ pub(crate) fn show_due<P: Press>(
 ) -> Result<(), PutRefusal>
     requires columns { columns.now ≡ style_one }
     requires shown { IsShown engine.now tally.now }
-    ensures shows { Shows (line_shown (setting_of engine.now.rules []) output.old last engine.now.state (sums_in tally.now) output.old.uses) (P.sent press.old) result (P.sent press.new) output.new.uses }
+    ensures shows { Shows (line_shown (setting_of engine.now.rules []) output.old last engine.now.state (sums_in tally.now) output.old.uses) (P.seen press.old).sent result (P.seen press.new).sent output.new.uses }
     ensures others { output.new ≡ record output.old { uses = output.new.uses } }
-    ensures cause { IsErrOf result PutRefusal.Faulted → Rose (P.faults press.old) (P.faults press.new) }
-    ensures kept { P.faults press.old ≤ P.faults press.new }
-    ensures stays { (IsErrOf result PutRefusal.Faulted → ⊥) → P.faults press.new ≡ P.faults press.old }
+    ensures cause { IsErrOf result PutRefusal.Faulted → Rose (P.seen press.old).faults (P.seen press.new).faults }
+    ensures kept { (P.seen press.old).faults ≤ (P.seen press.new).faults }
+    ensures stays { (IsErrOf result PutRefusal.Faulted → ⊥) → (P.seen press.new).faults ≡ (P.seen press.old).faults }
 {
     if !is_due(output.every, last, engine.step()) {
         return Ok(());
@@ -76,11 +76,11 @@ pub(crate) fn show_footer<P: Press>(
 ) -> Result<(), PutRefusal>
     requires rules { AreRules engine.now.rules }
     requires state { IsState engine.now.rules engine.now.state }
-    ensures shows { Shows (shown output.old (footer_now engine.now) output.old.uses) (P.sent press.old) result (P.sent press.new) output.new.uses }
+    ensures shows { Shows (shown output.old (footer_now engine.now) output.old.uses) (P.seen press.old).sent result (P.seen press.new).sent output.new.uses }
     ensures others { output.new ≡ record output.old { uses = output.new.uses } }
-    ensures cause { IsErrOf result PutRefusal.Faulted → Rose (P.faults press.old) (P.faults press.new) }
-    ensures kept { P.faults press.old ≤ P.faults press.new }
-    ensures stays { (IsErrOf result PutRefusal.Faulted → ⊥) → P.faults press.new ≡ P.faults press.old }
+    ensures cause { IsErrOf result PutRefusal.Faulted → Rose (P.seen press.old).faults (P.seen press.new).faults }
+    ensures kept { (P.seen press.old).faults ≤ (P.seen press.new).faults }
+    ensures stays { (IsErrOf result PutRefusal.Faulted → ⊥) → (P.seen press.new).faults ≡ (P.seen press.old).faults }
 {
     let (pairs, builds) = engine.counts();
     match footer(alloc, pairs, builds) {
@@ -97,11 +97,11 @@ fn show_header<P: Press>(
     press: &mut P,
 ) -> Result<(), PutRefusal>
     requires { columns.now ≡ style_one }
-    ensures shows { Shows (shown output.old thermo_header output.old.uses) (P.sent press.old) result (P.sent press.new) output.new.uses }
+    ensures shows { Shows (shown output.old thermo_header output.old.uses) (P.seen press.old).sent result (P.seen press.new).sent output.new.uses }
     ensures others { output.new ≡ record output.old { uses = output.new.uses } }
-    ensures cause { IsErrOf result PutRefusal.Faulted → Rose (P.faults press.old) (P.faults press.new) }
-    ensures kept { P.faults press.old ≤ P.faults press.new }
-    ensures stays { (IsErrOf result PutRefusal.Faulted → ⊥) → P.faults press.new ≡ P.faults press.old }
+    ensures cause { IsErrOf result PutRefusal.Faulted → Rose (P.seen press.old).faults (P.seen press.new).faults }
+    ensures kept { (P.seen press.old).faults ≤ (P.seen press.new).faults }
+    ensures stays { (IsErrOf result PutRefusal.Faulted → ⊥) → (P.seen press.new).faults ≡ (P.seen press.old).faults }
 {
     match header(alloc, columns) {
         Ok(header) => show(alloc, output, press, header.as_bytes()),
@@ -120,11 +120,11 @@ fn show_line<P: Press>(
 ) -> Result<(), PutRefusal>
     requires columns { columns.now ≡ style_one }
     requires shown { IsShown engine.now tally.now }
-    ensures shows { Shows (shown output.old (line_now engine.now tally.now) output.old.uses) (P.sent press.old) result (P.sent press.new) output.new.uses }
+    ensures shows { Shows (shown output.old (line_now engine.now tally.now) output.old.uses) (P.seen press.old).sent result (P.seen press.new).sent output.new.uses }
     ensures others { output.new ≡ record output.old { uses = output.new.uses } }
-    ensures cause { IsErrOf result PutRefusal.Faulted → Rose (P.faults press.old) (P.faults press.new) }
-    ensures kept { P.faults press.old ≤ P.faults press.new }
-    ensures stays { (IsErrOf result PutRefusal.Faulted → ⊥) → P.faults press.new ≡ P.faults press.old }
+    ensures cause { IsErrOf result PutRefusal.Faulted → Rose (P.seen press.old).faults (P.seen press.new).faults }
+    ensures kept { (P.seen press.old).faults ≤ (P.seen press.new).faults }
+    ensures stays { (IsErrOf result PutRefusal.Faulted → ⊥) → (P.seen press.new).faults ≡ (P.seen press.old).faults }
 {
     match thermo_line(alloc, columns, engine, tally) {
         Ok(line) => show(alloc, output, press, line.as_bytes()),

@@ -21,11 +21,11 @@ pub fn show<P: Press>(
     press: &mut P,
     text: &[u8],
 ) -> Result<(), PutRefusal>
-    ensures shows { Shows (shown output.old text.now output.old.uses) (P.sent press.old) result (P.sent press.new) output.new.uses }
+    ensures shows { Shows (shown output.old text.now output.old.uses) (P.seen press.old).sent result (P.seen press.new).sent output.new.uses }
     ensures others { output.new ≡ record output.old { uses = output.new.uses } }
-    ensures cause { IsErrOf result PutRefusal.Faulted → Rose (P.faults press.old) (P.faults press.new) }
-    ensures kept { P.faults press.old ≤ P.faults press.new }
-    ensures stays { (IsErrOf result PutRefusal.Faulted → ⊥) → P.faults press.new ≡ P.faults press.old }
+    ensures cause { IsErrOf result PutRefusal.Faulted → Rose (P.seen press.old).faults (P.seen press.new).faults }
+    ensures kept { (P.seen press.old).faults ≤ (P.seen press.new).faults }
+    ensures stays { (IsErrOf result PutRefusal.Faulted → ⊥) → (P.seen press.new).faults ≡ (P.seen press.old).faults }
 {
     match show_in_log(alloc, &output.log, &mut output.uses, press, text) {
         Ok(()) => {}
@@ -42,10 +42,10 @@ fn show_in_log<P: Press>(
     press: &mut P,
     text: &[u8],
 ) -> Result<(), PutRefusal>
-    ensures shows { Shows (shown_in_log log.now text.now uses.old) (P.sent press.old) result (P.sent press.new) uses.new }
-    ensures cause { IsErrOf result PutRefusal.Faulted → Rose (P.faults press.old) (P.faults press.new) }
-    ensures kept { P.faults press.old ≤ P.faults press.new }
-    ensures stays { (IsErrOf result PutRefusal.Faulted → ⊥) → P.faults press.new ≡ P.faults press.old }
+    ensures shows { Shows (shown_in_log log.now text.now uses.old) (P.seen press.old).sent result (P.seen press.new).sent uses.new }
+    ensures cause { IsErrOf result PutRefusal.Faulted → Rose (P.seen press.old).faults (P.seen press.new).faults }
+    ensures kept { (P.seen press.old).faults ≤ (P.seen press.new).faults }
+    ensures stays { (IsErrOf result PutRefusal.Faulted → ⊥) → (P.seen press.new).faults ≡ (P.seen press.old).faults }
 {
     match log {
         Some(name) => show_under(alloc, name, uses, press, text),
@@ -61,10 +61,10 @@ fn show_on_screen<P: Press>(
     press: &mut P,
     text: &[u8],
 ) -> Result<(), PutRefusal>
-    ensures shows { Shows (shown_on_screen screen text.now uses.old) (P.sent press.old) result (P.sent press.new) uses.new }
-    ensures cause { IsErrOf result PutRefusal.Faulted → Rose (P.faults press.old) (P.faults press.new) }
-    ensures kept { P.faults press.old ≤ P.faults press.new }
-    ensures stays { (IsErrOf result PutRefusal.Faulted → ⊥) → P.faults press.new ≡ P.faults press.old }
+    ensures shows { Shows (shown_on_screen screen text.now uses.old) (P.seen press.old).sent result (P.seen press.new).sent uses.new }
+    ensures cause { IsErrOf result PutRefusal.Faulted → Rose (P.seen press.old).faults (P.seen press.new).faults }
+    ensures kept { (P.seen press.old).faults ≤ (P.seen press.new).faults }
+    ensures stays { (IsErrOf result PutRefusal.Faulted → ⊥) → (P.seen press.new).faults ≡ (P.seen press.old).faults }
 {
     if !screen {
         return Ok(());
@@ -83,10 +83,10 @@ fn show_under<P: Press>(
     press: &mut P,
     text: &[u8],
 ) -> Result<(), PutRefusal>
-    ensures shows { Shows (shown_under name.now text.now uses.old) (P.sent press.old) result (P.sent press.new) uses.new }
-    ensures cause { IsErrOf result PutRefusal.Faulted → Rose (P.faults press.old) (P.faults press.new) }
-    ensures kept { P.faults press.old ≤ P.faults press.new }
-    ensures stays { (IsErrOf result PutRefusal.Faulted → ⊥) → P.faults press.new ≡ P.faults press.old }
+    ensures shows { Shows (shown_under name.now text.now uses.old) (P.seen press.old).sent result (P.seen press.new).sent uses.new }
+    ensures cause { IsErrOf result PutRefusal.Faulted → Rose (P.seen press.old).faults (P.seen press.new).faults }
+    ensures kept { (P.seen press.old).faults ≤ (P.seen press.new).faults }
+    ensures stays { (IsErrOf result PutRefusal.Faulted → ⊥) → (P.seen press.new).faults ≡ (P.seen press.old).faults }
 {
     let fresh = !uses.has_begun(name.as_bytes());
     match press.put(alloc, name, fresh, text) {

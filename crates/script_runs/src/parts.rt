@@ -1,15 +1,13 @@
 //! The parts of a run, from settings: the table of pairs, the fixes, the engine.
-ghost use Rattle.std.specs.Prelude.{◌≡◌, ◌≤◌, ◌&&◌, ◌⊎◌, ◌^◌, ◌+ℤ◌, cond, is_none, nat_le, pos, true, int_lt, length, None, Some, ℕ, IfOk, IsSome};
+ghost use Rattle.std.specs.Prelude.{◌≡◌, ◌≤◌, ◌^◌, ◌+ℤ◌, pos, true, int_lt, length, None, IfOk, IsSome};
 ghost use Rattle.std.specs.List.{list_all};
-ghost use Rattle.std.specs.Option.{option_or};
 ghost use Rattle.fix_list.specs.Fixes.{Rises};
 ghost use Rattle.fix_list.specs.declared.fixes.Fix.TheVariants.{Nve};
 ghost use Rattle.meaning.specs.Fixes.{fixes_over, ids_of};
-ghost use Rattle.meaning.specs.Pairs.{are_all_set, is_of, numbers_of, reach_of};
-ghost use Rattle.meaning.specs.Sound.{IsSoundBody, IsSoundForce, IsSoundPair};
-ghost use Rattle.pair_lj.specs.Table.{kinds_of};
-ghost use Rattle.script_runs.specs.Engines.{IsEngineOf, IsTableOf, found_in};
-ghost use Rattle.serial_step.specs.Pairs.{IsOfKinds};
+ghost use Rattle.meaning.specs.Pairs.{reach_of};
+ghost use Rattle.meaning.specs.Sound.{IsSoundBody, IsSoundForce};
+ghost use Rattle.pair_lj.specs.Pairs.{are_all_had};
+ghost use Rattle.script_runs.specs.Engines.{IsEngineOf, IsTableOf};
 ghost use Rattle.serial_step.specs.Room.{edge_too_small};
 ghost use Rattle.step_engine.specs.Ranges.{IsTimestep};
 
@@ -18,7 +16,7 @@ use box_geo::{Atom, Ids, SimBox, System};
 use command_words::NewFix;
 use fix_list::{Fix, FixList, NamedFix};
 use fx_num::{NoMemory, Seq};
-use meaning::{Body, Force, PairCoefficients};
+use meaning::{Body, Force};
 use pair_lj::PairTable;
 use std::alloc::Global;
 use step_engine::{Engine, EngineRefusal, ForceField};
@@ -36,42 +34,17 @@ pub(crate) fn reach_of(force: &Force) -> u64
     most
 }
 
-/// Gives a table of so many types a pair, unless its types have one, or there are no such types.
-fn set_pair(table: &mut PairTable, kinds: u8, pair: &PairCoefficients)
-    requires kinds { kinds_of table.old ≡ kinds }
-    requires sound { IsSoundPair pair.now }
-    ensures kinds { kinds_of table.new ≡ kinds_of table.old }
-    ensures set { (i j : ℕ) → IsOfKinds kinds i → IsOfKinds kinds j
-        → found_in table.new i j ≡ option_or (found_in table.old i j) (cond (is_of i j pair.now) (Some (numbers_of pair.now)) None) }
-    ensures no_more { (i j : ℕ) → (found_in table.new i j ≡ found_in table.old i j) ⊎ (found_in table.new i j ≡ Some (numbers_of pair.now)) }
-{
-    if lacks(table, kinds, pair) {
-        table.set(pair.i, pair.j, pair.epsilon, pair.sigma, pair.cutoff);
-    }
-}
-
-/// Whether a table of so many types has the types of a pair, and no coefficients for them.
-fn lacks(table: &PairTable, kinds: u8, pair: &PairCoefficients) -> bool
-    requires kinds { kinds_of table.now ≡ kinds }
-    requires sound { IsSoundPair pair.now }
-    ensures { result ≡ (nat_le pair.now.j kinds && is_none (found_in table.now pair.now.i pair.now.j)) }
-{
-    pair.j <= kinds && table.coeff(pair.i, pair.j).is_none()
-}
-
 /// The table of the pairs that are set, for so many types.
 fn table_of(alloc: Global, force: &Force, kinds: u8) -> Result<PairTable, NoMemory>
     requires force { IsSoundForce force.now }
     requires style { IsSome force.now.pair_style }
     requires some { 1 ≤ kinds }
     requires few { kinds ≤ MAX_KINDS }
-    requires set { are_all_set kinds force.now.pairs ≡ true }
+    requires set { are_all_had kinds force.now.pairs ≡ true }
     ensures { IfOk result (IsTableOf kinds force.now) }
 {
-    let mut table = PairTable::new(alloc, kinds, force.pair_style.unwrap())?;
-    for pair in force.pairs.as_slice() {
-        set_pair(&mut table, kinds, pair);
-    }
+    let cutoff = force.pair_style.unwrap();
+    let mut table = PairTable::of(alloc, kinds, cutoff, force.pairs.as_slice())?;
     match table.finish() {
         Ok(()) => Ok(table),
         Err(_) => unreachable!(),
@@ -157,7 +130,7 @@ pub(crate) fn engine_of(
     requires body { IsSoundBody body }
     requires style { IsSome force.now.pair_style }
     requires massive { list_all (λ m. int_lt (pos 0) m) body.mass ≡ true }
-    requires set { are_all_set (length body.mass) force.now.pairs ≡ true }
+    requires set { are_all_had (length body.mass) force.now.pairs ≡ true }
     requires room { edge_too_small body.sides (pos (reach_of force.now) +ℤ force.now.skin) ≡ None }
     ensures { IfOk result (IsEngineOf force.now dt (length body.mass) body) }
 {

@@ -32,12 +32,12 @@ pub fn run<P: Press, L: Ledger>(
 ) -> Result<(), Refusal>
     requires sound { IsSound settings.old }
     requires limit { n ≤ MAX_STEP }
-    ensures does { Does (run upto n settings.old) (P.sent press.old) result (P.sent press.new) settings.new }
+    ensures does { Does (run upto n settings.old) (P.seen press.old).sent result (P.seen press.new).sent settings.new }
     ensures counted { Counted (run upto n settings.old).pairs steps.old result steps.new }
     ensures sound { OnOk result (IsSound settings.new) }
-    ensures cause { IfErr result (λ why. Rests why (press_alone (P.faults press.old)) (press_alone (P.faults press.new))) }
-    ensures kept { Kept (press_alone (P.faults press.old)) (press_alone (P.faults press.new)) }
-    ensures stays { Stays result (press_alone (P.faults press.old)) (press_alone (P.faults press.new)) }
+    ensures cause { IfErr result (λ why. Rests why (press_alone (P.seen press.old)) (press_alone (P.seen press.new))) }
+    ensures kept { Kept (press_alone (P.seen press.old)) (press_alone (P.seen press.new)) }
+    ensures stays { Stays result (press_alone (P.seen press.old)) (press_alone (P.seen press.new)) }
 {
     let body = match settings.body.take() {
         Some(body) => body,
@@ -64,12 +64,12 @@ fn run_ready<P: Press, L: Ledger>(
     requires ahead { body.step ≤ last }
     requires last { last ≤ MAX_STEP }
     requires ready { IsReady settings.old body }
-    ensures does { Does (after_run settings.old body (run_of (setting_of settings.old body) settings.old.output last body.step body.atoms settings.old.output.uses)) (P.sent press.old) result (P.sent press.new) settings.new }
+    ensures does { Does (after_run settings.old body (run_of (setting_of settings.old body) settings.old.output last body.step body.atoms settings.old.output.uses)) (P.seen press.old).sent result (P.seen press.new).sent settings.new }
     ensures counted { Counted (run_of (setting_of settings.old body) settings.old.output last body.step body.atoms settings.old.output.uses).pairs steps.old result steps.new }
     ensures sound { OnOk result (IsSound settings.new) }
-    ensures cause { IfErr result (λ why. Rests why (press_alone (P.faults press.old)) (press_alone (P.faults press.new))) }
-    ensures kept { Kept (press_alone (P.faults press.old)) (press_alone (P.faults press.new)) }
-    ensures stays { Stays result (press_alone (P.faults press.old)) (press_alone (P.faults press.new)) }
+    ensures cause { IfErr result (λ why. Rests why (press_alone (P.seen press.old)) (press_alone (P.seen press.new))) }
+    ensures kept { Kept (press_alone (P.seen press.old)) (press_alone (P.seen press.new)) }
+    ensures stays { Stays result (press_alone (P.seen press.old)) (press_alone (P.seen press.new)) }
 {
     let fixes = match fixes_over(
         alloc,

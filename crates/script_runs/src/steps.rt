@@ -40,13 +40,13 @@ pub(crate) fn run_engine<P: Press, L: Ledger>(
     requires builds { engine.old.state.builds ≡ 0 }
     requires ahead { engine.old.state.step ≤ last }
     requires last { last ≤ MAX_STEP }
-    ensures makes { Makes (run_of (setting_of engine.old.rules fixes.now) output.old last engine.old.state.step engine.old.state.atoms output.old.uses) (P.sent press.old) steps.old result (P.sent press.new) steps.new output.new.uses engine.new.state }
+    ensures makes { Makes (run_of (setting_of engine.old.rules fixes.now) output.old last engine.old.state.step engine.old.state.atoms output.old.uses) (P.seen press.old).sent steps.old result (P.seen press.new).sent steps.new output.new.uses engine.new.state }
     ensures others { output.new ≡ record output.old { uses = output.new.uses } }
     ensures rules { OnOk result (engine.new ≡ record engine.old { state = engine.new.state }) }
     ensures ready { OnOk result (IsState engine.new.rules engine.new.state) }
-    ensures cause { IfErr result (λ why. Rests why (press_alone (P.faults press.old)) (press_alone (P.faults press.new))) }
-    ensures kept { Kept (press_alone (P.faults press.old)) (press_alone (P.faults press.new)) }
-    ensures stays { Stays result (press_alone (P.faults press.old)) (press_alone (P.faults press.new)) }
+    ensures cause { IfErr result (λ why. Rests why (press_alone (P.seen press.old)) (press_alone (P.seen press.new))) }
+    ensures kept { Kept (press_alone (P.seen press.old)) (press_alone (P.seen press.new)) }
+    ensures stays { Stays result (press_alone (P.seen press.old)) (press_alone (P.seen press.new)) }
 {
     let columns = match style_one(alloc) {
         Ok(columns) => columns,
@@ -77,13 +77,13 @@ fn set_up<P: Press, L: Ledger>(
     requires state { IsState engine.old.rules engine.old.state }
     requires references { engine.old.state.references ≡ positions engine.old.state.atoms }
     requires builds { engine.old.state.builds ≡ 0 }
-    ensures begins { Begins (set_up_part (setting_of engine.old.rules fixes.now) output.old engine.old.state.step engine.old.state.atoms output.old.uses) (P.sent press.old) steps.old result (P.sent press.new) steps.new output.new.uses }
+    ensures begins { Begins (set_up_part (setting_of engine.old.rules fixes.now) output.old engine.old.state.step engine.old.state.atoms output.old.uses) (P.seen press.old).sent steps.old result (P.seen press.new).sent steps.new output.new.uses }
     ensures others { output.new ≡ record output.old { uses = output.new.uses } }
     ensures state { OnOk result (engine.new ≡ record engine.old { state = (set_up (setting_of engine.old.rules fixes.now) engine.old.state.step engine.old.state.atoms).state }) }
     ensures ready { OnOk result (IsState engine.new.rules engine.new.state) }
-    ensures cause { IfErr result (λ why. Rests why (press_alone (P.faults press.old)) (press_alone (P.faults press.new))) }
-    ensures kept { Kept (press_alone (P.faults press.old)) (press_alone (P.faults press.new)) }
-    ensures stays { Stays result (press_alone (P.faults press.old)) (press_alone (P.faults press.new)) }
+    ensures cause { IfErr result (λ why. Rests why (press_alone (P.seen press.old)) (press_alone (P.seen press.new))) }
+    ensures kept { Kept (press_alone (P.seen press.old)) (press_alone (P.seen press.new)) }
+    ensures stays { Stays result (press_alone (P.seen press.old)) (press_alone (P.seen press.new)) }
 {
     let number = engine.step();
     let tally = match engine.forces(fixes, steps) {
@@ -114,13 +114,13 @@ fn go_on<P: Press, L: Ledger>(
     requires first { first ≡ engine.old.state.step }
     requires ahead { first ≤ last }
     requires last { last ≤ MAX_STEP }
-    ensures makes { Makes (run_from (setting_of engine.old.rules fixes.now) output.old last (last - first) engine.old.state output.old.uses) (P.sent press.old) steps.old result (P.sent press.new) steps.new output.new.uses engine.new.state }
+    ensures makes { Makes (run_from (setting_of engine.old.rules fixes.now) output.old last (last - first) engine.old.state output.old.uses) (P.seen press.old).sent steps.old result (P.seen press.new).sent steps.new output.new.uses engine.new.state }
     ensures others { output.new ≡ record output.old { uses = output.new.uses } }
     ensures rules { OnOk result (engine.new ≡ record engine.old { state = engine.new.state }) }
     ensures ready { OnOk result (IsState engine.new.rules engine.new.state) }
-    ensures cause { IfErr result (λ why. Rests why (press_alone (P.faults press.old)) (press_alone (P.faults press.new))) }
-    ensures kept { Kept (press_alone (P.faults press.old)) (press_alone (P.faults press.new)) }
-    ensures stays { Stays result (press_alone (P.faults press.old)) (press_alone (P.faults press.new)) }
+    ensures cause { IfErr result (λ why. Rests why (press_alone (P.seen press.old)) (press_alone (P.seen press.new))) }
+    ensures kept { Kept (press_alone (P.seen press.old)) (press_alone (P.seen press.new)) }
+    ensures stays { Stays result (press_alone (P.seen press.old)) (press_alone (P.seen press.new)) }
 {
     for step in first..last {
         match step_once(
@@ -153,13 +153,13 @@ fn step_once<P: Press, L: Ledger>(
     requires state { IsState engine.old.rules engine.old.state }
     requires step { step ≡ engine.old.state.step }
     requires below { engine.old.state.step < MAX_STEP }
-    ensures begins { Begins (step_part (setting_of engine.old.rules fixes.now) output.old last engine.old.state output.old.uses) (P.sent press.old) steps.old result (P.sent press.new) steps.new output.new.uses }
+    ensures begins { Begins (step_part (setting_of engine.old.rules fixes.now) output.old last engine.old.state output.old.uses) (P.seen press.old).sent steps.old result (P.seen press.new).sent steps.new output.new.uses }
     ensures others { output.new ≡ record output.old { uses = output.new.uses } }
     ensures state { OnOk result (engine.new ≡ record engine.old { state = (serial_step (setting_of engine.old.rules fixes.now) engine.old.state).state }) }
     ensures ready { OnOk result (IsState engine.new.rules engine.new.state) }
-    ensures cause { IfErr result (λ why. Rests why (press_alone (P.faults press.old)) (press_alone (P.faults press.new))) }
-    ensures kept { Kept (press_alone (P.faults press.old)) (press_alone (P.faults press.new)) }
-    ensures stays { Stays result (press_alone (P.faults press.old)) (press_alone (P.faults press.new)) }
+    ensures cause { IfErr result (λ why. Rests why (press_alone (P.seen press.old)) (press_alone (P.seen press.new))) }
+    ensures kept { Kept (press_alone (P.seen press.old)) (press_alone (P.seen press.new)) }
+    ensures stays { Stays result (press_alone (P.seen press.old)) (press_alone (P.seen press.new)) }
 {
     let tally = match engine.advance(fixes, steps) {
         Ok(tally) => tally,

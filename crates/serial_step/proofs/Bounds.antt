@@ -1,7 +1,6 @@
 -- How large the sums over pairs are: the energy by the greatest depth of a well, the virial by the edges of the box.
 use Rattle.std.proofs.Common.{◌≡◌, ⊎_elim, ◌+◌, ◌*◌, ◌^◌, ◌<◌, ◌≤◌, ◌==◌, Bool, true, false, cond, nat_le, ℕ, zero, suc, ℤ, pos, ◌+ℤ◌, ◌-ℤ◌, ◌*ℤ◌, ◌<ℤ◌, unsigned_abs, Option, Some, None, Result, Ok, Err, IfOk, IfSome, List, [], ◌∷◌, ◌++◌, length, map, refl, ap, ◌∙◌, arith}
 use Rattle.std.specs.List.{All}
-use Rattle.std.specs.Option.{option_map}
 use Rattle.std.proofs.lemmas.Int.{ints, unsigned_abs-mul}
 use Rattle.std.proofs.lemmas.Nat.{mul-le}
 use Rattle.std.proofs.lemmas.Bool.{cases_lt}
@@ -17,13 +16,13 @@ use Rattle.box_geo.specs.declared.term.Term.{Term}
 use Rattle.box_geo.specs.Sides.{x_of, y_of, z_of, edge, Holds, IsInside, near_along, near_image, length2, z_wraps}
 use Rattle.box_geo.proofs.NearLemmas.{apart, has_edge}
 use Rattle.pair_lj.specs.declared.close.Close.{Close}
-use Rattle.pair_lj.specs.declared.coefficients.Coefficients.{Coefficients}
-use Rattle.pair_lj.specs.declared.table.PairTable.{PairTable}
+use Rattle.pair_lj.specs.declared.pair_settings.PairCoefficients.{PairCoefficients}
 use Rattle.pair_lj.specs.PairTerm.{inverse_square, sixth_power, twelfth_power, strength, energy_at, force_along, dot, is_too_near, is_too_strong, weighted_term, pair_term, IsModerate}
-use Rattle.pair_lj.specs.Table.{coefficients_at}
+use Rattle.pair_lj.specs.Pairs.{IsSoundPair, PairNumbers, numbers_at}
 use Rattle.pair_lj.proofs.PairLemmas.{force_along-weighted}
+use Rattle.pair_lj.proofs.SetLemmas.{numbers_small}
 use Rattle.sums.specs.Totals.{total, half}
-use Rattle.serial_step.specs.Forces.{PairNumbers, Field, numbers_of, field_of, term_with, term_apart, term_of, energy_of, virial_of, pair_energy, pair_virial}
+use Rattle.serial_step.specs.Forces.{Field, field_of, term_with, term_apart, term_of, energy_of, virial_of, pair_energy, pair_virial}
 
 -- a sum of numbers that are each at most the bound
 pub total-within_all : {X : Type 0} (f : X → ℤ) (bound : ℕ) (xs : List X) → All (λ x. unsigned_abs (f x) ≤ bound) xs → unsigned_abs (total f xs) ≤ bound * length xs
@@ -142,24 +141,18 @@ energy_of-within (Ok (Some t)) bound h = h
 energy_of-within (Ok None) bound h = omega arith
 energy_of-within (Err close) bound h = omega arith
 
--- the coefficients of a table keep to their limits
-weak_numbers : (k : Option Coefficients) (n : PairNumbers) → option_map numbers_of k ≡ Some n → n.epsilon ≤ 2 ^ 32
-weak_numbers None n is = absurd cc
-weak_numbers (Some k) n is =
-    let same : k.epsilon ≡ n.epsilon = cc in
-    omega (arith, k.weak)
-
-pub term_energy-within : (table : PairTable) (s : Sides) (i j : Atom) → unsigned_abs (energy_of (term_of (field_of table) s i j)) ≤ 2 ^ 60
+-- the energy of a field whose numbers keep to their limits
+pub term_energy-within : (pairs : List PairCoefficients) (s : Sides) (i j : Atom) → All IsSoundPair pairs → unsigned_abs (energy_of (term_of (field_of pairs) s i j)) ≤ 2 ^ 60
 unfolding term_of
-term_energy-within table s i j =
-    energy_of-within (term_of (field_of table) s i j) (2 ^ 60)
-    (term_apart-has (HasEnergyWithin (2 ^ 60)) (i.id == j.id) (2 ^ 24) (option_map numbers_of (coefficients_at table i.kind j.kind)) (near_image s i.x j.x)
-    (λ n is. pair_term-energy n.epsilon n.sigma n.cutoff (2 ^ 24) (near_image s i.x j.x) (weak_numbers (coefficients_at table i.kind j.kind) n is) (omega arith)))
+term_energy-within pairs s i j sound =
+    energy_of-within (term_of (field_of pairs) s i j) (2 ^ 60)
+    (term_apart-has (HasEnergyWithin (2 ^ 60)) (i.id == j.id) (2 ^ 24) (numbers_at pairs i.kind j.kind) (near_image s i.x j.x)
+    (λ n is. pair_term-energy n.epsilon n.sigma n.cutoff (2 ^ 24) (near_image s i.x j.x) (numbers_small pairs i.kind j.kind n sound is).epsilon (omega arith)))
 
-pub pair_energy-within : (table : PairTable) (s : Sides) (atoms : List Atom) → unsigned_abs (pair_energy (field_of table) s atoms) ≤ 2 ^ 60 * length (half atoms)
+pub pair_energy-within : (pairs : List PairCoefficients) (s : Sides) (atoms : List Atom) → All IsSoundPair pairs → unsigned_abs (pair_energy (field_of pairs) s atoms) ≤ 2 ^ 60 * length (half atoms)
 unfolding pair_energy
-pair_energy-within table s atoms =
-    total-within (λ p. energy_of (term_of (field_of table) s p.0 p.1)) (2 ^ 60) (half atoms) (λ p. term_energy-within table s p.0 p.1)
+pair_energy-within pairs s atoms sound =
+    total-within (λ p. energy_of (term_of (field_of pairs) s p.0 p.1)) (2 ^ 60) (half atoms) (λ p. term_energy-within pairs s p.0 p.1 sound)
 
 -- the nearest image is no longer than the edges
 near_along-within : (wraps : Bool) (length d : ℤ) → pos 0 <ℤ length → unsigned_abs d < unsigned_abs length → unsigned_abs (near_along wraps length d) ≤ unsigned_abs length
@@ -218,14 +211,14 @@ virial_of-within (Err close) bound h = omega arith
 abbrev pub IsLight : Field → Type 0
 IsLight field = (a b : ℕ) → field.weight a b ≤ 2 ^ 24
 
-pub field_of-light : (table : PairTable) → IsLight (field_of table)
-field_of-light table a b = omega arith
+pub field_of-light : (pairs : List PairCoefficients) → IsLight (field_of pairs)
+field_of-light pairs a b = omega arith
 
 pub term_virial-within : (field : Field) (s : Sides) (i j : Atom) → IsLight field → IsInside s i.x → IsInside s j.x → unsigned_abs (virial_of (term_of field s i j)) ≤ 2 ^ 42 * edges_of s
 unfolding term_of
 term_virial-within field s i j light inside other =
     virial_of-within (term_of field s i j) (2 ^ 42 * edges_of s)
-    (term_apart-has (HasVirialWithin (2 ^ 42 * edges_of s)) (i.id == j.id) (field.weight i.id j.id) (field.pairs i.kind j.kind) (near_image s i.x j.x)
+    (term_apart-has (HasVirialWithin (2 ^ 42 * edges_of s)) (i.id == j.id) (field.weight i.id j.id) (numbers_at field.pairs i.kind j.kind) (near_image s i.x j.x)
     (λ n is. pair_term-virial s n.epsilon n.sigma n.cutoff (field.weight i.id j.id) (near_image s i.x j.x) (near_image-spanned s i.x j.x inside other) (light i.id j.id)))
 
 pub pair_virial-within : (field : Field) (s : Sides) (atoms : List Atom) → IsLight field → All (λ a. IsInside s a.x) atoms
@@ -278,24 +271,18 @@ pair_term-reached eps sigma cut weight d short light =
     (weighted_term c (energy_at eps sigma (length2 d) -ℤ pos 0) weight d)
     (λ near apart mild. dot_short d (force_along (shr_rounded (c *ℤ pos weight) 24) d) (short_within d cut short near) (force_along-weighted c weight d light mild))
 
-short_numbers : (k : Option Coefficients) (n : PairNumbers) → option_map numbers_of k ≡ Some n → n.cutoff ≤ 2 ^ 28
-short_numbers None n is = absurd cc
-short_numbers (Some k) n is =
-    let same : k.cutoff ≡ n.cutoff = cc in
-    omega (arith, k.short)
-
-term_virial-reached : (table : PairTable) (s : Sides) (i j : Atom) → unsigned_abs (virial_of (term_of (field_of table) s i j)) ≤ 3 * 2 ^ 70
+term_virial-reached : (pairs : List PairCoefficients) (s : Sides) (i j : Atom) → All IsSoundPair pairs → unsigned_abs (virial_of (term_of (field_of pairs) s i j)) ≤ 3 * 2 ^ 70
 unfolding term_of
-term_virial-reached table s i j =
-    virial_of-within (term_of (field_of table) s i j) (3 * 2 ^ 70)
-    (term_apart-has (HasVirialWithin (3 * 2 ^ 70)) (i.id == j.id) (2 ^ 24) (option_map numbers_of (coefficients_at table i.kind j.kind)) (near_image s i.x j.x)
-    (λ n is. pair_term-reached n.epsilon n.sigma n.cutoff (2 ^ 24) (near_image s i.x j.x) (short_numbers (coefficients_at table i.kind j.kind) n is) (omega arith)))
+term_virial-reached pairs s i j sound =
+    virial_of-within (term_of (field_of pairs) s i j) (3 * 2 ^ 70)
+    (term_apart-has (HasVirialWithin (3 * 2 ^ 70)) (i.id == j.id) (2 ^ 24) (numbers_at pairs i.kind j.kind) (near_image s i.x j.x)
+    (λ n is. pair_term-reached n.epsilon n.sigma n.cutoff (2 ^ 24) (near_image s i.x j.x) (numbers_small pairs i.kind j.kind n sound is).cutoff (omega arith)))
 
 -- a virial by the greatest cutoff, whatever the edges
-pub pair_virial-reached : (table : PairTable) (s : Sides) (atoms : List Atom) → unsigned_abs (pair_virial (field_of table) s atoms) ≤ 3 * 2 ^ 70 * length (half atoms)
+pub pair_virial-reached : (pairs : List PairCoefficients) (s : Sides) (atoms : List Atom) → All IsSoundPair pairs → unsigned_abs (pair_virial (field_of pairs) s atoms) ≤ 3 * 2 ^ 70 * length (half atoms)
 unfolding pair_virial
-pair_virial-reached table s atoms =
-    total-within (λ p. virial_of (term_of (field_of table) s p.0 p.1)) (3 * 2 ^ 70) (half atoms) (λ p. term_virial-reached table s p.0 p.1)
+pair_virial-reached pairs s atoms sound =
+    total-within (λ p. virial_of (term_of (field_of pairs) s p.0 p.1)) (3 * 2 ^ 70) (half atoms) (λ p. term_virial-reached pairs s p.0 p.1 sound)
 
 -- for as many atoms as there may be
 few_pairs : (n h : ℕ) → n ≤ 2 ^ 20 → 2 * h ≤ n * n → (h ≤ n * 2 ^ 19) × (h ≤ 2 ^ 39)
@@ -303,14 +290,14 @@ few_pairs n h few low =
     let most : n * n ≤ n * 2 ^ 20 = mul-le n n n (2 ^ 20) (omega arith) few in
     (omega arith, omega arith)
 
-pub pair_energy-small : (table : PairTable) (s : Sides) (atoms : List Atom) → length atoms ≤ 2 ^ 20 → unsigned_abs (pair_energy (field_of table) s atoms) ≤ length atoms * 2 ^ 79
-pair_energy-small table s atoms few =
-    let pairs : length (half atoms) ≤ length atoms * 2 ^ 19 = (few_pairs (length atoms) (length (half atoms)) few (length-half atoms)).0 in
-    omega (arith, pair_energy-within table s atoms)
+pub pair_energy-small : (pairs : List PairCoefficients) (s : Sides) (atoms : List Atom) → All IsSoundPair pairs → length atoms ≤ 2 ^ 20 → unsigned_abs (pair_energy (field_of pairs) s atoms) ≤ length atoms * 2 ^ 79
+pair_energy-small pairs s atoms sound few =
+    let most : length (half atoms) ≤ length atoms * 2 ^ 19 = (few_pairs (length atoms) (length (half atoms)) few (length-half atoms)).0 in
+    omega (arith, pair_energy-within pairs s atoms sound)
 
-pub pair_virial-small : (table : PairTable) (s : Sides) (atoms : List Atom) → length atoms ≤ 2 ^ 20 → All (λ a. IsInside s a.x) atoms
-    → unsigned_abs (pair_virial (field_of table) s atoms) ≤ 2 ^ 81 * edges_of s
-pair_virial-small table s atoms few inside =
-    let pairs : length (half atoms) ≤ 2 ^ 39 = (few_pairs (length atoms) (length (half atoms)) few (length-half atoms)).1 in
-    let most : 2 ^ 42 * edges_of s * length (half atoms) ≤ 2 ^ 42 * edges_of s * 2 ^ 39 = mul-le (2 ^ 42 * edges_of s) (length (half atoms)) (2 ^ 42 * edges_of s) (2 ^ 39) (omega arith) pairs in
-    omega (arith, pair_virial-within (field_of table) s atoms (field_of-light table) inside)
+pub pair_virial-small : (pairs : List PairCoefficients) (s : Sides) (atoms : List Atom) → length atoms ≤ 2 ^ 20 → All (λ a. IsInside s a.x) atoms
+    → unsigned_abs (pair_virial (field_of pairs) s atoms) ≤ 2 ^ 81 * edges_of s
+pair_virial-small pairs s atoms few inside =
+    let some : length (half atoms) ≤ 2 ^ 39 = (few_pairs (length atoms) (length (half atoms)) few (length-half atoms)).1 in
+    let most : 2 ^ 42 * edges_of s * length (half atoms) ≤ 2 ^ 42 * edges_of s * 2 ^ 39 = mul-le (2 ^ 42 * edges_of s) (length (half atoms)) (2 ^ 42 * edges_of s) (2 ^ 39) (omega arith) some in
+    omega (arith, pair_virial-within (field_of pairs) s atoms (field_of-light pairs) inside)

@@ -1,6 +1,5 @@
 -- Laws of the forces and of the sums over pairs: a term is odd, an atom has none with itself, and no sum depends on the order of a list of pairs.
-use Rattle.std.proofs.Common.{◌≡◌, ◌⊎◌, inl, inr, ◌*◌, ◌<◌, ◌≤◌, ◌==◌, Bool, true, false, ⊎_elim, cond, nat_lt, nat_le, ℕ, zero, suc, ℤ, pos, ◌+ℤ◌, neg_ℤ, Option, Some, None, Result, Ok, Err, IfSome, List, [], ◌∷◌, length, get_or, slice_index_or, map, flat_map, filter, IsPermutation, refl, sym, ap, subst, ◌∙◌, arith, eq-eqb}
-use Rattle.std.specs.Option.{option_map}
+use Rattle.std.proofs.Common.{◌≡◌, ◌⊎◌, inl, inr, ◌*◌, ◌<◌, ◌≤◌, ◌==◌, Bool, true, false, ⊎_elim, cond, nat_lt, nat_le, ℕ, zero, suc, ℤ, pos, ◌+ℤ◌, neg_ℤ, Option, Some, None, Result, Ok, Err, IfSome, List, [], ◌∷◌, length, get_or, map, flat_map, filter, IsPermutation, refl, sym, ap, subst, ◌∙◌, arith, eq-eqb}
 use Rattle.std.proofs.lemmas.Int.{ints}
 use Rattle.std.proofs.lemmas.Nat.{mul-le}
 use Rattle.std.proofs.lemmas.List.Sorted.{IsPermutation-refl}
@@ -11,15 +10,15 @@ use Rattle.box_geo.specs.declared.term.Term.{Term}
 use Rattle.box_geo.specs.Sides.{x_of, y_of, z_of, near_image, length2, HasEdges}
 use Rattle.box_geo.proofs.NearLemmas.{near_image-opposite}
 use Rattle.pair_lj.specs.declared.close.Close.{Close}
-use Rattle.pair_lj.specs.declared.table.PairTable.{PairTable}
+use Rattle.pair_lj.specs.declared.pair_settings.PairCoefficients.{PairCoefficients}
 use Rattle.pair_lj.specs.PairTerm.{pair_term, IsOpposite, AreOpposite}
-use Rattle.pair_lj.specs.Table.{coefficients_at}
-use Rattle.pair_lj.specs.Places.{place}
+use Rattle.pair_lj.specs.Pairs.{PairNumbers, numbers_at}
 use Rattle.pair_lj.proofs.PairLemmas.{pair_term-opposite}
+use Rattle.pair_lj.proofs.SetLemmas.{numbers_at-comm}
 use Rattle.sums.specs.Totals.{total, half, into, opposite_adds}
 use Rattle.sums.proofs.Totals.{total-same, total-filter, total-flat_map, total-map, total-IsPermutation}
 use Rattle.sums.proofs.Pairs.{words_from_list, total-at_key}
-use Rattle.serial_step.specs.Forces.{PairNumbers, Field, numbers_of, field_of, term_with, term_apart, term_of, force_of, energy_of, virial_of, force_on, pair_energy, pair_virial, terms_fault, close_word, least}
+use Rattle.serial_step.specs.Forces.{Field, field_of, term_with, term_apart, term_of, force_of, energy_of, virial_of, force_on, pair_energy, pair_virial, terms_fault, close_word, least}
 use Rattle.serial_step.specs.Pairs.{IsFair, AreApart, LeavesNoTerm, AreNearPairs, brought, OnlyTurns, lesser_id_first, energy_between, virial_between, word_between, IsReach, is_within}
 use Rattle.serial_step.proofs.LeastLemmas.{least-chosen, least-flat_map}
 
@@ -42,12 +41,12 @@ term_apart-same b c v w k l d e f g = cc
 pub term_of-opposite : (field : Field) (s : Sides) (i j : Atom) → IsFair field → HasEdges s → AreOpposite (term_of field s i j) (term_of field s j i)
 unfolding term_of
 term_of-opposite field s i j fair edges =
-    let exchanged : term_of field s j i ≡ term_apart (i.id == j.id) (field.weight i.id j.id) (field.pairs i.kind j.kind) (near_image s j.x i.x) =
-    term_apart-same (j.id == i.id) (i.id == j.id) (field.weight j.id i.id) (field.weight i.id j.id) (field.pairs j.kind i.kind) (field.pairs i.kind j.kind) (near_image s j.x i.x)
-    (equal-comm j.id i.id) (fair.weight j.id i.id) (fair.pairs j.kind i.kind) in
+    let exchanged : term_of field s j i ≡ term_apart (i.id == j.id) (field.weight i.id j.id) (numbers_at field.pairs i.kind j.kind) (near_image s j.x i.x) =
+    term_apart-same (j.id == i.id) (i.id == j.id) (field.weight j.id i.id) (field.weight i.id j.id) (numbers_at field.pairs j.kind i.kind) (numbers_at field.pairs i.kind j.kind) (near_image s j.x i.x)
+    (equal-comm j.id i.id) (fair.weight j.id i.id) (numbers_at-comm field.pairs j.kind i.kind) in
     let on : Result (Option Term) Close → Type 0 = λ r. AreOpposite (term_of field s i j) r in
     subst on (sym exchanged)
-    (term_apart-opposite (i.id == j.id) (field.weight i.id j.id) (field.pairs i.kind j.kind) (near_image s i.x j.x) (near_image s j.x i.x) (near_image-opposite s i.x j.x edges))
+    (term_apart-opposite (i.id == j.id) (field.weight i.id j.id) (numbers_at field.pairs i.kind j.kind) (near_image s i.x j.x) (near_image s j.x i.x) (near_image-opposite s i.x j.x edges))
 
 pub force_of-opposite : (r q : Result (Option Term) Close) → AreOpposite r q → IsOpposite (force_of r) (force_of q)
 force_of-opposite (Ok None) (Ok None) h = (refl, refl, refl)
@@ -82,18 +81,9 @@ virial_of-opposite (Ok (Some t)) (Err e) h = absurd h
 virial_of-opposite (Err c) (Ok None) h = absurd h
 virial_of-opposite (Err c) (Ok (Some u)) h = absurd h
 
--- the field of a table is fair
-place-comm : (i j : ℕ) → place i j ≡ place j i
-place-comm i j = omega arith
-
-coefficients_at-comm : (t : PairTable) (i j : ℕ) → coefficients_at t i j ≡ coefficients_at t j i
-coefficients_at-comm t i j = ap (λ (n : ℕ). slice_index_or t.pairs.items n None) (place-comm i j)
-
-pub field_of-fair : (t : PairTable) → IsFair (field_of t)
-field_of-fair t = record {
-  pairs = λ i j. ap (option_map numbers_of) (coefficients_at-comm t i j);
-  weight = λ a b. refl;
-}
+-- a field without bonds is fair
+pub field_of-fair : (pairs : List PairCoefficients) → IsFair (field_of pairs)
+field_of-fair pairs = record { weight = λ a b. refl }
 
 -- an atom has no term with itself
 pub term_of-alone : (field : Field) (s : Sides) (i j : Atom) → i.id ≡ j.id → term_of field s i j ≡ Ok None
@@ -225,9 +215,9 @@ term_apart-far : (same : Bool) (w : ℕ) (k : Option PairNumbers) (d : List ℤ)
 term_apart-far true w k d far = refl
 term_apart-far false w k d far = term_with-far w k d far
 
-pub term_of-far : (field : Field) (s : Sides) (i j : Atom) → IfSome (field.pairs i.kind j.kind) (λ n. n.cutoff * n.cutoff ≤ length2 (near_image s i.x j.x)) → term_of field s i j ≡ Ok None
+pub term_of-far : (field : Field) (s : Sides) (i j : Atom) → IfSome (numbers_at field.pairs i.kind j.kind) (λ n. n.cutoff * n.cutoff ≤ length2 (near_image s i.x j.x)) → term_of field s i j ≡ Ok None
 unfolding term_of
-term_of-far field s i j far = term_apart-far (i.id == j.id) (field.weight i.id j.id) (field.pairs i.kind j.kind) (near_image s i.x j.x) far
+term_of-far field s i j far = term_apart-far (i.id == j.id) (field.weight i.id j.id) (numbers_at field.pairs i.kind j.kind) (near_image s i.x j.x) far
 
 beyond : (k : Option PairNumbers) (reach r2 : ℕ) → IfSome k (λ n. n.cutoff ≤ reach) → reach * reach ≤ r2 → IfSome k (λ n. n.cutoff * n.cutoff ≤ r2)
 beyond None reach r2 low far = tt
@@ -239,7 +229,7 @@ no_nearer m n h = grind (arith, nat_tests)
 pub is_within-far : (field : Field) (s : Sides) (reach : ℕ) → IsReach field reach → LeavesNoTerm field s (is_within s reach)
 is_within-far field s reach low p off =
     term_of-far field s p.0 p.1
-    (beyond (field.pairs p.0.kind p.1.kind) reach (length2 (near_image s p.0.x p.1.x)) (low p.0.kind p.1.kind) (no_nearer (length2 (near_image s p.0.x p.1.x)) (reach * reach) off))
+    (beyond (numbers_at field.pairs p.0.kind p.1.kind) reach (length2 (near_image s p.0.x p.1.x)) (low p.0.kind p.1.kind) (no_nearer (length2 (near_image s p.0.x p.1.x)) (reach * reach) off))
 
 -- turning a pair round changes nothing of what it brings
 two_turned : (b c : Bool) (z : ℤ) → cond b (neg_ℤ z) (pos 0) +ℤ (cond c (neg_ℤ (neg_ℤ z)) (pos 0) +ℤ pos 0) ≡ cond c z (pos 0) +ℤ (cond b (neg_ℤ z) (pos 0) +ℤ pos 0)

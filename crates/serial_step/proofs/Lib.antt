@@ -1,7 +1,6 @@
 pub mod Bounds
 mod Worked
 mod WorkedPairs
-pub mod FieldLemmas
 pub mod ForceLemmas
 pub mod LeastLemmas
 pub mod PlaceLemmas

@@ -7,8 +7,9 @@ use Rattle.box_geo.specs.declared.sim_box.Sides.{Sides}
 use Rattle.box_geo.specs.Fault.{no_fault}
 use Rattle.box_geo.specs.Sides.{near_image}
 use Rattle.box_geo.specs.Wrap.{wrap}
+use Rattle.pair_lj.specs.Pairs.{numbers_at}
 use Rattle.pair_lj.specs.PairTerm.{inverse_square, sixth_power, twelfth_power, strength, energy_at, force_along, weighted_term, pair_term}
-use Rattle.serial_step.specs.Forces.{Field, term_of, force_on, pair_energy, pair_virial, terms_fault, with_forces, forces_fault, force_word, least, word}
+use Rattle.serial_step.specs.Forces.{Field, field_of, term_of, force_on, pair_energy, pair_virial, terms_fault, with_forces, forces_fault, force_word, least, word}
 use Rattle.serial_step.specs.Rebuild.{renews, neighbour_pairs}
 use Rattle.serial_step.specs.Step.{Setting, State, drifted, kicked_again, serial_step}
 
@@ -19,7 +20,7 @@ abbrev box : Bool → Sides
 box periodic = record { x = side periodic; y = side periodic; z = side periodic; dim = 3 }
 
 abbrev field : Field
-field = record { pairs = λ i j. Some record { epsilon = 2 ^ 24; sigma = 2 ^ 24; cutoff = 41943040 }; weight = λ i j. 2 ^ 24 }
+field = field_of (record { i = 1; j = 1; epsilon = pos (2 ^ 24); sigma = pos (2 ^ 24); cutoff = pos 41943040 } ∷ [])
 
 -- the timestep 0.5, and every atom moves
 abbrev setting : Bool → ℕ → Setting
@@ -51,12 +52,12 @@ wraps : serial_step (setting true 5033165) wrapping ≡ record {
   };
   sums = record { pair = pos 0; virial = pos 0 };
 }
-unfolding serial_step drifted kicked_again wrap renews with_forces force_on forces_fault terms_fault term_of pair_energy pair_virial near_image div_rounded nearest_of
+unfolding serial_step drifted kicked_again wrap renews with_forces force_on forces_fault terms_fault term_of numbers_at pair_energy pair_virial near_image div_rounded nearest_of
 wraps = refl
 
 -- in a fixed box it is lost in the drift
 loses : (serial_step (setting false 5033165) wrapping).fault ≡ word 1 6 1 0
-unfolding serial_step drifted kicked_again wrap renews with_forces force_on forces_fault terms_fault term_of pair_energy pair_virial near_image div_rounded nearest_of
+unfolding serial_step drifted kicked_again wrap renews with_forces force_on forces_fault terms_fault term_of numbers_at pair_energy pair_virial near_image div_rounded nearest_of
 loses = refl
 
 -- with a skin of 0.5, a move of half the skin renews nothing, and one of a unit more does
@@ -64,11 +65,11 @@ abbrev moving : ℕ → State
 moving v = record { step = 0; atoms = atom 1 (middle (pos (5 * 2 ^ 24))) (along_x (pos v)) ∷ []; references = middle (pos (5 * 2 ^ 24)) ∷ []; builds = 0 }
 
 half_the_skin : (serial_step (setting true (2 ^ 23)) (moving (2 ^ 23))).state.builds ≡ 0
-unfolding serial_step drifted kicked_again wrap renews with_forces force_on forces_fault terms_fault term_of pair_energy pair_virial near_image div_rounded nearest_of
+unfolding serial_step drifted kicked_again wrap renews with_forces force_on forces_fault terms_fault term_of numbers_at pair_energy pair_virial near_image div_rounded nearest_of
 half_the_skin = refl
 
 a_unit_more : (serial_step (setting true (2 ^ 23)) (moving 8388610)).state.builds ≡ 1
-unfolding serial_step drifted kicked_again wrap renews with_forces force_on forces_fault terms_fault term_of pair_energy pair_virial near_image div_rounded nearest_of
+unfolding serial_step drifted kicked_again wrap renews with_forces force_on forces_fault terms_fault term_of numbers_at pair_energy pair_virial near_image div_rounded nearest_of
 a_unit_more = refl
 
 -- two atoms at distance 1: the forces are 24 and -24 and the energy is 0
@@ -79,11 +80,11 @@ at_one : with_forces field (box true) pair
     ≡ record { id = 1; mol = 0; kind = 1; x = middle (pos (4 * 2 ^ 24)); v = none; f = along_x (neg_ℤ (pos (24 * 2 ^ 24))); image = none }
     ∷ record { id = 2; mol = 0; kind = 1; x = middle (pos (5 * 2 ^ 24)); v = none; f = along_x (pos (24 * 2 ^ 24)); image = none }
     ∷ []
-unfolding with_forces force_on term_of near_image pair_term weighted_term force_along energy_at strength twelfth_power sixth_power inverse_square nearest_of div_rounded
+unfolding with_forces force_on term_of numbers_at near_image pair_term weighted_term force_along energy_at strength twelfth_power sixth_power inverse_square nearest_of div_rounded
 at_one = refl
 
 sums_at_two : pair_energy field (box true) (atom 1 (middle (pos (4 * 2 ^ 24))) none ∷ atom 2 (middle (pos (6 * 2 ^ 24))) none ∷ []) ≡ neg_ℤ (pos 1032192)
-unfolding pair_energy term_of near_image pair_term weighted_term force_along energy_at strength twelfth_power sixth_power inverse_square nearest_of div_rounded
+unfolding pair_energy term_of numbers_at near_image pair_term weighted_term force_along energy_at strength twelfth_power sixth_power inverse_square nearest_of div_rounded
 sums_at_two = refl
 
 -- two atoms at distance 2, at rest, with the forces of 0.181640625 that they have there: half a kick, the drift, the new forces, half a kick
@@ -111,7 +112,7 @@ a_whole_step : serial_step (setting true 5033165) resting ≡ record {
   };
   sums = record { pair = neg_ℤ (pos 1181917); virial = neg_ℤ (pos 116803023847424) };
 }
-unfolding serial_step drifted kicked_again wrap renews with_forces force_on forces_fault terms_fault term_of pair_energy pair_virial near_image pair_term weighted_term force_along energy_at strength twelfth_power sixth_power inverse_square div_rounded nearest_of
+unfolding serial_step drifted kicked_again wrap renews with_forces force_on forces_fault terms_fault term_of numbers_at pair_energy pair_virial near_image pair_term weighted_term force_along energy_at strength twelfth_power sixth_power inverse_square div_rounded nearest_of
 a_whole_step = refl
 
 -- ids 3, 5 and 7 at (5.1, 5, 5), (5, 5.1, 5) and (5, 5, 5): all pairs are too close, and the least key is that of 3 and 5
@@ -119,12 +120,12 @@ abbrev at : ℕ → ℕ → List ℤ
 at x y = pos x ∷ pos y ∷ pos 83886080 ∷ []
 
 three_close : forces_fault field (box true) (atom 3 (at 85563802 83886080) none ∷ atom 5 (at 83886080 85563802) none ∷ atom 7 (at 83886080 83886080) none ∷ []) ≡ word 2 1 3 5
-unfolding forces_fault terms_fault term_of near_image pair_term inverse_square nearest_of
+unfolding forces_fault terms_fault term_of numbers_at near_image pair_term inverse_square nearest_of
 three_close = refl
 
 -- the same with the atoms in falling order: the least key, and not that of the first pair
 three_turned : forces_fault field (box true) (atom 7 (at 83886080 83886080) none ∷ atom 5 (at 83886080 85563802) none ∷ atom 3 (at 85563802 83886080) none ∷ []) ≡ word 2 1 3 5
-unfolding forces_fault terms_fault term_of near_image pair_term inverse_square nearest_of
+unfolding forces_fault terms_fault term_of numbers_at near_image pair_term inverse_square nearest_of
 three_turned = refl
 
 -- five atoms at (5, 5, 5), and a sixth 33/64 from them: each pushes it by 261095, together above 2^20, and yet the fault is that of the first two
@@ -134,11 +135,11 @@ crowd =
     ∷ atom 4 (at 83886080 83886080) none ∷ atom 5 (at 83886080 83886080) none ∷ atom 6 (at 92536832 83886080) none ∷ []
 
 pushed_too_hard : least (map force_word (with_forces field (box true) crowd)) ≡ word 2 4 6 0
-unfolding with_forces force_on term_of near_image pair_term weighted_term force_along energy_at strength twelfth_power sixth_power inverse_square nearest_of div_rounded
+unfolding with_forces force_on term_of numbers_at near_image pair_term weighted_term force_along energy_at strength twelfth_power sixth_power inverse_square nearest_of div_rounded
 pushed_too_hard = refl
 
 close_judged_first : forces_fault field (box true) crowd ≡ word 2 1 1 2
-unfolding forces_fault terms_fault with_forces force_on term_of near_image pair_term weighted_term force_along energy_at strength twelfth_power sixth_power inverse_square nearest_of div_rounded
+unfolding forces_fault terms_fault with_forces force_on term_of numbers_at near_image pair_term weighted_term force_along energy_at strength twelfth_power sixth_power inverse_square nearest_of div_rounded
 close_judged_first = refl
 
 -- the footer's first number, for two atoms 2.7 apart and for two 2.8 apart: 2.5 and the skin are together 46976205 units

@@ -5,9 +5,10 @@ use Rattle.box_geo.specs.declared.atoms.Atom.{Atom}
 use Rattle.box_geo.specs.declared.sim_box.Extent.{Extent}
 use Rattle.box_geo.specs.declared.sim_box.Sides.{Sides}
 use Rattle.box_geo.specs.Sides.{near_image, x_of}
+use Rattle.pair_lj.specs.Pairs.{numbers_at}
 use Rattle.pair_lj.specs.PairTerm.{inverse_square, sixth_power, twelfth_power, strength, energy_at, force_along, weighted_term, pair_term}
 use Rattle.sums.specs.Totals.{half}
-use Rattle.serial_step.specs.Forces.{Field, term_of}
+use Rattle.serial_step.specs.Forces.{Field, field_of, term_of}
 use Rattle.serial_step.specs.Pairs.{brought, is_within, lesser_id_first}
 
 abbrev side : Extent
@@ -17,7 +18,7 @@ abbrev box : Sides
 box = record { x = side; y = side; z = side; dim = 3 }
 
 abbrev field : Field
-field = record { pairs = λ i j. Some record { epsilon = 2 ^ 24; sigma = 2 ^ 24; cutoff = 41943040 }; weight = λ i j. 2 ^ 24 }
+field = field_of (record { i = 1; j = 1; epsilon = pos (2 ^ 24); sigma = pos (2 ^ 24); cutoff = pos 41943040 } ∷ [])
 
 abbrev none : List ℤ
 none = pos 0 ∷ pos 0 ∷ pos 0 ∷ []
@@ -38,15 +39,15 @@ abbrev along_x : List (Atom × Atom) → ℕ → ℤ
 along_x list id = brought field box x_of (λ a. a.id) list id
 
 first_pushed : along_x pairs 1 ≡ neg_ℤ (pos (24 * 2 ^ 24))
-unfolding term_of near_image pair_term weighted_term force_along energy_at strength twelfth_power sixth_power inverse_square nearest_of div_rounded
+unfolding term_of numbers_at near_image pair_term weighted_term force_along energy_at strength twelfth_power sixth_power inverse_square nearest_of div_rounded
 first_pushed = refl
 
 second_pushed : along_x ((atom 2 5, atom 1 4) ∷ []) 2 ≡ pos (24 * 2 ^ 24)
-unfolding term_of near_image pair_term weighted_term force_along energy_at strength twelfth_power sixth_power inverse_square nearest_of div_rounded
+unfolding term_of numbers_at near_image pair_term weighted_term force_along energy_at strength twelfth_power sixth_power inverse_square nearest_of div_rounded
 second_pushed = refl
 
 third_alone : along_x pairs 3 ≡ pos 0
-unfolding term_of near_image pair_term weighted_term force_along energy_at strength twelfth_power sixth_power inverse_square nearest_of div_rounded
+unfolding term_of numbers_at near_image pair_term weighted_term force_along energy_at strength twelfth_power sixth_power inverse_square nearest_of div_rounded
 third_alone = refl
 
 turned : lesser_id_first (atom 2 5, atom 1 4) ≡ (atom 1 4, atom 2 5)

@@ -1,6 +1,5 @@
 -- The forces on atoms and the sums over pairs of atoms. All are sums of whole numbers, so nothing depends on an order.
 use Rattle.std.specs.Prelude.{◌+◌, ◌*◌, ◌^◌, ◌==◌, ◌||◌, Bool, true, false, cond, min, max, nat_lt, ℕ, zero, suc, ℤ, pos, unsigned_abs, Option, Some, None, Result, Ok, Err, List, [], ◌∷◌, map, fold}
-use Rattle.std.specs.Option.{option_map}
 use Rattle.box_geo.specs.declared.atoms.Atom.{Atom}
 use Rattle.box_geo.specs.declared.sim_box.Sides.{Sides}
 use Rattle.box_geo.specs.declared.term.Term.{Term}
@@ -9,35 +8,24 @@ use Rattle.box_geo.specs.declared.fault.FaultKind.TheVariants as kind
 use Rattle.box_geo.specs.Fault.{no_fault, phase_number, kind_number}
 use Rattle.box_geo.specs.Sides.{x_of, y_of, z_of, near_image}
 use Rattle.pair_lj.specs.declared.close.Close.{Close}
-use Rattle.pair_lj.specs.declared.coefficients.Coefficients.{Coefficients}
-use Rattle.pair_lj.specs.declared.table.PairTable.{PairTable}
-use Rattle.pair_lj.specs.PairTerm.{pair_term}
-use Rattle.pair_lj.specs.Table.{coefficients_at}
+use Rattle.pair_lj.specs.declared.pair_settings.PairCoefficients.{PairCoefficients}
+use Rattle.pair_lj.specs.Pairs.{PairNumbers, numbers_at, term_by}
 use Rattle.sums.specs.Totals.{total, half}
 
--- the coefficients of a pair of types, in units
-pub record PairNumbers : Type 0 where
-  pub epsilon : ℕ
-  pub sigma : ℕ
-  pub cutoff : ℕ
-
--- what forces rest on: the coefficients of each pair of types, and the special weight of each pair of ids, in units
+-- what forces rest on: the pairs of types that are set, and the special weight of each pair of ids, in units
 pub record Field : Type 0 where
-  pub pairs : ℕ → ℕ → Option PairNumbers
+  pub pairs : List PairCoefficients
   pub weight : ℕ → ℕ → ℕ
 
--- the field of a table of coefficients; until bonds come each weight is 1
-abbrev pub numbers_of : Coefficients → PairNumbers
-numbers_of k = record { epsilon = k.epsilon; sigma = k.sigma; cutoff = k.cutoff }
-
-abbrev pub field_of : PairTable → Field
-field_of table = record { pairs = λ i j. option_map numbers_of (coefficients_at table i j); weight = λ i j. 2 ^ 24 }
+-- the field of the pairs that are set; until bonds come each weight is 1
+abbrev pub field_of : List PairCoefficients → Field
+field_of pairs = record { pairs = pairs; weight = λ i j. 2 ^ 24 }
 
 -- a term with a weight above 0, for types that have coefficients
 abbrev pub term_with : ℕ → Option PairNumbers → List ℤ → Result (Option Term) Close
 term_with zero k d = Ok None
 term_with (suc w) None d = Ok None
-term_with (suc w) (Some k) d = pair_term k.epsilon k.sigma k.cutoff (pos 0) (suc w) d
+term_with (suc w) (Some k) d = term_by k (suc w) d
 
 abbrev pub term_apart : Bool → ℕ → Option PairNumbers → List ℤ → Result (Option Term) Close
 term_apart true w k d = Ok None
@@ -46,7 +34,7 @@ term_apart false w k d = term_with w k d
 -- the term of atom i by atom j at their nearest image; there is none between an atom and itself, or at weight 0
 unfoldable pub term_of : Field → Sides → Atom → Atom → Result (Option Term) Close
 term_of field s i j =
-    term_apart (i.id == j.id) (field.weight i.id j.id) (field.pairs i.kind j.kind) (near_image s i.x j.x)
+    term_apart (i.id == j.id) (field.weight i.id j.id) (numbers_at field.pairs i.kind j.kind) (near_image s i.x j.x)
 
 -- what a term gives: the force on the first atom, the energy, the product of displacement and force
 abbrev pub force_of : Result (Option Term) Close → List ℤ

@@ -5,12 +5,12 @@ use Rattle.std.specs.List.Sorted.{IsPermutation}
 use Rattle.box_geo.specs.declared.atoms.Atom.{Atom}
 use Rattle.box_geo.specs.declared.sim_box.Sides.{Sides}
 use Rattle.box_geo.specs.Sides.{near_image, length2}
+use Rattle.pair_lj.specs.Pairs.{numbers_at}
 use Rattle.sums.specs.Totals.{total, half, into, opposite_adds}
 use Rattle.serial_step.specs.Forces.{Field, close_word, energy_of, force_of, term_of, virial_of}
 
--- neither the coefficients nor the weight depend on the order of a pair
+-- the weight doesn't depend on the order of a pair; the numbers of its types never do
 pub record IsFair (field : Field) : Type 0 where
-  pub pairs : (i j : ℕ) → field.pairs i j ≡ field.pairs j i
   pub weight : (a b : ℕ) → field.weight a b ≡ field.weight b a
 
 -- no two of the atoms have one number
@@ -67,21 +67,8 @@ joined lists = flat_map (λ list. list) lists
 
 -- no cutoff is beyond the reach
 abbrev pub IsReach : Field → ℕ → Type 0
-IsReach field reach = (i j : ℕ) → IfSome (field.pairs i j) (λ k. k.cutoff ≤ reach)
+IsReach field reach = (i j : ℕ) → IfSome (numbers_at field.pairs i j) (λ k. k.cutoff ≤ reach)
 
 -- the pair is nearer than the reach
 abbrev pub is_within : Sides → ℕ → Atom × Atom → Bool
 is_within s reach p = nat_lt (length2 (near_image s p.0.x p.1.x)) (reach * reach)
-
--- a type of so many
-abbrev pub IsOfKinds : ℕ → ℕ → Type 0
-IsOfKinds kinds k = (1 ≤ k) × (k ≤ kinds)
-
--- two fields agree at so many types, and give each pair of ids the same weight
-pub record AreAlike (kinds : ℕ) (f g : Field) : Type 0 where
-  pub pairs : (i j : ℕ) → IsOfKinds kinds i → IsOfKinds kinds j → f.pairs i j ≡ g.pairs i j
-  pub weight : (a b : ℕ) → f.weight a b ≡ g.weight a b
-
--- all atoms are of those types
-abbrev pub AreOfKinds : ℕ → List Atom → Type 0
-AreOfKinds kinds atoms = AllByRecursion (λ a. IsOfKinds kinds a.kind) atoms

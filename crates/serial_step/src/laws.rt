@@ -7,7 +7,8 @@ ghost use Rattle.box_geo.specs.Sides.{near_image, length2, x_of, y_of, z_of, Has
 ghost use Rattle.box_geo.specs.declared.atoms.Atom.{Atom};
 ghost use Rattle.box_geo.specs.declared.sim_box.Sides.{Sides};
 ghost use Rattle.pair_lj.specs.PairTerm.{IsOpposite, AreOpposite};
-ghost use Rattle.pair_lj.specs.declared.table.PairTable.{PairTable};
+ghost use Rattle.pair_lj.specs.Pairs.{numbers_at};
+ghost use Rattle.pair_lj.specs.declared.pair_settings.PairCoefficients.{PairCoefficients};
 ghost use Rattle.serial_step.specs.Forces.{Field, field_of, term_of, force_of, energy_of, virial_of, force_on, least, pair_energy, pair_virial, terms_fault};
 ghost use Rattle.serial_step.specs.Pairs.{IsFair, AreApart, LeavesNoTerm, AreNearPairs, HasEachNearPairOnce, OnlyTurns, IsReach, brought, energy_between, virial_between, word_between, joined, is_within, lesser_id_first, pair_at};
 ghost use Rattle.sums.specs.Totals.{total, half};
@@ -25,9 +26,9 @@ pub fn terms_are_odd()
         → virial_of (term_of field s j i) ≡ virial_of (term_of field s i j) }
 {}
 
-/// In the field of a table of coefficients a pair has no order.
-pub fn tables_are_fair()
-    ensures { (table : PairTable) → IsFair (field_of table) }
+/// In the field of the pairs that are set a pair has no order.
+pub fn fields_are_fair()
+    ensures { (pairs : List PairCoefficients) → IsFair (field_of pairs) }
 {}
 
 /// An atom has no term with itself, nor with any atom of its id: nothing acts there.
@@ -111,7 +112,7 @@ pub fn the_least_word()
 /// a skin, leaves out no term.
 pub fn terms_end_at_the_cutoff()
     ensures cutoff { (field : Field) (s : Sides) (i j : Atom)
-        → IfSome (field.pairs i.kind j.kind) (λ k. k.cutoff * k.cutoff ≤ length2 (near_image s i.x j.x))
+        → IfSome (numbers_at field.pairs i.kind j.kind) (λ k. k.cutoff * k.cutoff ≤ length2 (near_image s i.x j.x))
         → term_of field s i j ≡ Ok None }
     ensures reach { (field : Field) (s : Sides) (reach : ℕ) → IsReach field reach
         → LeavesNoTerm field s (is_within s reach) }

@@ -8,7 +8,7 @@ use Rattle.meaning.specs.declared.refusal.SettingsRefusal.{SettingsRefusal}
 use Rattle.meaning.specs.declared.refusal.SettingsRefusal.TheVariants as settings
 use Rattle.meaning.specs.declared.settings.Settings.{Settings}
 use Rattle.meaning.specs.Answers.{Answers, Decides}
-use Rattle.meaning.specs.Causes.{Counted, Counts, Kept, Rests, Stays, nothing_lent, press_alone, shelf_alone, shelf_and_press}
+use Rattle.meaning.specs.Causes.{Counted, Outside, Kept, Rests, Stays, nothing_lent, press_alone, shelf_alone, seen_of}
 use Rattle.meaning.specs.Outcome.{Outcome, answered, done, refused, refuses, silent}
 use Rattle.meaning.specs.Sends.{Changes, Does, Executes, RefusesWith, StoppedBy}
 use Rattle.outside.specs.declared.press.Piece.{Piece}
@@ -22,7 +22,7 @@ sends_nothing meant sent h = sym (plus-nil sent) ∙ ap (λ (ps : List Piece). p
 
 stops_silent : (why : Refusal) (meant : Outcome) (sent : Option (List Piece)) (new : Settings) → RefusesWith why meant new → StoppedBy why meant sent sent new
 stops_silent (why.Code code) meant sent new h =
-    record { way = ap (λ (o : Outcome). o.way) h; sent = sends_nothing meant sent (ap (λ (o : Outcome). o.pieces) h); output = ap (λ (o : Outcome). o.state.output) (sym h) }
+    record { way = ap (λ (o : Outcome). o.way) h; sent = sends_nothing meant sent (ap (λ (o : Outcome). o.pieces) h); state_is = ap (λ (o : Outcome). o.state) (sym h) }
 stops_silent (why.Range key step) meant sent new h = absurd h
 stops_silent why.ReadFault meant sent new h = SendsFront-none sent meant.pieces
 stops_silent why.WriteFault meant sent new h = absurd h

@@ -4,6 +4,10 @@ use Rattle.box_geo.specs.declared.styles.AtomStyle.{AtomStyle}
 use Rattle.command_words.specs.declared.command.Command.{Command}
 use Rattle.command_words.specs.declared.command.Command.TheVariants as command
 use Rattle.command_words.specs.declared.fixes.NewFix.{NewFix}
+use Rattle.command_words.specs.declared.lattice.Creation.{Creation}
+use Rattle.command_words.specs.declared.lattice.LatticeSetting.{LatticeSetting}
+use Rattle.command_words.specs.declared.lattice.NewBox.{NewBox}
+use Rattle.command_words.specs.declared.lattice.NewRegion.{NewRegion}
 use Rattle.command_words.specs.declared.masses_groups.MassSetting.{MassSetting}
 use Rattle.command_words.specs.declared.pairs.PairCoeff.{PairCoeff}
 use Rattle.command_words.specs.declared.runs.Run.{Run}
@@ -23,6 +27,10 @@ pub record IsOther (k : Command) : Type 0 where
   pub newton_not : k ≡ command.Newton → ⊥
   pub atom_modify_not : k ≡ command.AtomModify → ⊥
   pub echo_not : k ≡ command.Echo → ⊥
+  pub lattice_not : (x : LatticeSetting) → k ≡ command.Lattice x → ⊥
+  pub region_not : (x : NewRegion) → k ≡ command.Region x → ⊥
+  pub create_box_not : (x : NewBox) → k ≡ command.CreateBox x → ⊥
+  pub create_atoms_not : (x : Creation) → k ≡ command.CreateAtoms x → ⊥
   pub read_data_not : (x : List ℕ) → k ≡ command.ReadData x → ⊥
   pub mass_not : (x : MassSetting) → k ≡ command.Mass x → ⊥
   pub pair_style_not : (x : ℤ) → k ≡ command.PairStyle x → ⊥
@@ -52,10 +60,10 @@ others_unbuilt files (command.Processors x) s h = absurd (h.processors_not x ref
 others_unbuilt files command.Newton s h = absurd (h.newton_not refl)
 others_unbuilt files command.AtomModify s h = absurd (h.atom_modify_not refl)
 others_unbuilt files command.Echo s h = absurd (h.echo_not refl)
-others_unbuilt files (command.Lattice x) s h = refl
-others_unbuilt files (command.Region x) s h = refl
-others_unbuilt files (command.CreateBox x) s h = refl
-others_unbuilt files (command.CreateAtoms x) s h = refl
+others_unbuilt files (command.Lattice x) s h = absurd (h.lattice_not x refl)
+others_unbuilt files (command.Region x) s h = absurd (h.region_not x refl)
+others_unbuilt files (command.CreateBox x) s h = absurd (h.create_box_not x refl)
+others_unbuilt files (command.CreateAtoms x) s h = absurd (h.create_atoms_not x refl)
 others_unbuilt files (command.ReadData x) s h = absurd (h.read_data_not x refl)
 others_unbuilt files (command.WriteData x) s h = refl
 others_unbuilt files (command.Restart x) s h = refl

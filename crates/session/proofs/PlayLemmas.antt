@@ -6,7 +6,7 @@ use Rattle.meaning.specs.declared.refusal.Refusal.{Refusal}
 use Rattle.meaning.specs.declared.refusal.Refusal.TheVariants as why
 use Rattle.meaning.specs.declared.going.Going.TheVariants.{On, Quit}
 use Rattle.meaning.specs.declared.settings.Settings.{Settings}
-use Rattle.meaning.specs.Causes.{Counted, Counts, Kept, Rests, Stays, shelf_and_press}
+use Rattle.meaning.specs.Causes.{Counted, Outside, Kept, Rests, Stays, seen_of}
 use Rattle.meaning.specs.Lines.{line_outcome}
 use Rattle.meaning.specs.Outcome.{Outcome, Way, fails, goes, quits, refuses, unbuilt}
 use Rattle.log_output.specs.Errors.{fault_text}
@@ -100,7 +100,9 @@ told_ends o way file line next s state new {mid} {mid2} h e same =
     (subst (λ (p : Played). EndsAs state mid2 p new) (same ∙ ap (λ (w : Way). goes_by w o.state file line next) (sym h.way)) e)
 
 pub stop_ends : (why : Refusal) (o : Outcome) (file : List ℕ) (line : ℕ) (next : Settings → Played) (s : Settings) (state : Status) (mid mid2 new : Option (List Piece)) → StoppedBy why o mid mid2 s → EndsLine why s.output file line state mid2 new → EndsAs state mid (played_after o file line next) new
-stop_ends (why.Code code) o file line next s state mid mid2 new h e = told_ends o (refuses code) file line next s state new h e (ap (λ (u : Output). refused_line u file line code) h.output)
+stop_ends (why.Code code) o file line next s state mid mid2 new h e =
+    let by : EndsBy (refuses code) o mid mid2 s = record { way = h.way; sent = h.sent; output = ap (λ (t : Settings). t.output) h.state_is } in
+    told_ends o (refuses code) file line next s state new by e (ap (λ (t : Settings). refused_line t.output file line code) h.state_is)
 stop_ends (why.Range key step) o file line next s state mid mid2 new h e = told_ends o (fails key step) file line next s state new h e (ap (λ (u : Output). ends_telling u (fault_text key step) (failed_at key step)) h.output)
 stop_ends why.NotBuilt o file line next s state mid mid2 new h e = told_ends o unbuilt file line next s state new h e refl
 stop_ends why.ReadFault o file line next s state mid mid2 new h e =

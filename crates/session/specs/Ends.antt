@@ -5,7 +5,7 @@ use Rattle.meaning.specs.declared.code.Code.TheVariants as code
 use Rattle.meaning.specs.declared.output.Output.{Output}
 use Rattle.meaning.specs.declared.refusal.Refusal.{Refusal}
 use Rattle.meaning.specs.declared.refusal.Refusal.TheVariants as why
-use Rattle.meaning.specs.Causes.{Counts, Rests}
+use Rattle.meaning.specs.Causes.{Outside, ReadsStay, Rests, SavesStay, WritesStay}
 use Rattle.meaning.specs.Play.{End, Played, complete, ends_telling, ends_with, failed_at, refused_at, refused_line, unbuilt_at}
 use Rattle.log_output.specs.Errors.{fault_text}
 use Rattle.outside.specs.declared.press.Piece.{Piece}
@@ -82,7 +82,7 @@ number_of (Usage place) = 7
 number_of (NotBuilt file line) = 9
 
 -- a status blames a device only where its count rose
-abbrev pub StatusRests : Status → Counts → Counts → Type 0
+abbrev pub StatusRests : Status → Outside → Outside → Type 0
 StatusRests (ScriptRefused code file line) old new = Rests (why.Code code) old new
 StatusRests ReadFault old new = Rests why.ReadFault old new
 StatusRests WriteFault old new = Rests why.WriteFault old new
@@ -90,10 +90,11 @@ StatusRests DiskFault old new = Rests why.DiskFault old new
 StatusRests _ old new = Unit {0}
 
 -- a count of faults stays where the status does not blame the device
-abbrev pub StatusStays : Status → Counts → Counts → Type 0
-StatusStays ReadFault old new = new.writes ≡ old.writes
-StatusStays WriteFault old new = new.reads ≡ old.reads
-StatusStays _ old new = (new.reads ≡ old.reads) × (new.writes ≡ old.writes)
+abbrev pub StatusStays : Status → Outside → Outside → Type 0
+StatusStays ReadFault old new = WritesStay old new × SavesStay old new
+StatusStays WriteFault old new = ReadsStay old new × SavesStay old new
+StatusStays DiskFault old new = ReadsStay old new × WritesStay old new
+StatusStays _ old new = ReadsStay old new × (WritesStay old new × SavesStay old new)
 
 -- at most the terms of pairs that are meant were summed, and just so many where the script was run
 pub record StatusCounted (pairs : ℕ) (old : ℕ) (status : Status) (new : ℕ) : Type 0 where

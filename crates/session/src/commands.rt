@@ -1,5 +1,5 @@
 //! Each command by its function.
-ghost use Rattle.meaning.specs.Causes.{Counted, Kept, Rests, Stays, nothing_lent, shelf_and_press};
+ghost use Rattle.meaning.specs.Causes.{Counted, Kept, Rests, Stays, nothing_lent, seen_of};
 ghost use Rattle.meaning.specs.Commands.{atoms_of_style, fix_of, outcome_of};
 ghost use Rattle.command_words.specs.Limits.{KeepsLimits};
 ghost use Rattle.meaning.specs.Sends.{Changes, Executes};
@@ -14,17 +14,20 @@ use crate::system_files::read_data;
 use crate::variables::set_variable;
 use box_geo::AtomStyle;
 use command_words::{Command, FixStyle, NewFix};
+use disk_outside::Disk;
+use external_force::{Callback, External, ExternalView, PullRule};
 use fx_num::Steps;
 use meaning::{Going, Refusal, Settings};
-use outside::{Press, Shelf};
+use outside::{Gate, Press, Shelf};
 use run_settings::{
-    add_fix, remove_fix, reset_timestep, set_atom_style, set_boundary, set_comm_cutoff,
-    set_dimension, set_masses, set_pair_coefficients, set_pair_style, set_processors, set_skin,
-    set_thermo, set_timestep,
+    add_fix, add_region, create_atoms, create_box, remove_fix, reset_timestep, set_atom_style,
+    set_boundary, set_comm_cutoff, set_dimension, set_lattice, set_masses, set_pair_coefficients,
+    set_pair_style, set_processors, set_skin, set_thermo, set_timestep,
 };
 use script_runs::run;
 use std::alloc::Global;
 use std::sync::ledger::Ledger;
+use std::thread::Threads;
 
 /// Carries a command out.
 ///
@@ -32,22 +35,35 @@ use std::sync::ledger::Ledger;
 ///
 /// The code of the command; the key and the step of a range fault; `NotBuilt`; `ReadFault` and `WriteFault` only where the shelf or
 /// the press failed; `NoMemory`.
-pub fn execute<S: Shelf, P: Press, L: Ledger>(
+pub fn execute<
+    T: Threads + Sync,
+    S: Shelf,
+    P: Press,
+    D: Disk,
+    G: Gate,
+    F: Fn(&ExternalView) -> [i64; 3] + Callback,
+    R: PullRule,
+    L: Ledger,
+>(
+    _rt: &T,
     alloc: Global,
     settings: &mut Settings,
     command: Command,
     shelf: &mut S,
     press: &mut P,
+    disk: &mut D,
+    _gate: &G,
+    _external: &External<F, R>,
     steps: &mut Steps<L>,
 ) -> Result<Going, Refusal>
     requires sound { IsSound settings.old }
     requires limits { KeepsLimits command }
-    ensures does { (files : List File) → S.stock shelf.old ≡ Some files → Executes (outcome_of files command settings.old) (P.sent press.old) result (P.sent press.new) settings.new }
-    ensures counted { (files : List File) → S.stock shelf.old ≡ Some files → Counted (outcome_of files command settings.old).pairs steps.old result steps.new }
+    ensures does { (files : List File) → (S.seen shelf.old).stock ≡ Some files → Executes (outcome_of files command settings.old) (P.seen press.old).sent result (P.seen press.new).sent settings.new }
+    ensures counted { (files : List File) → (S.seen shelf.old).stock ≡ Some files → Counted (outcome_of files command settings.old).pairs steps.old result steps.new }
     ensures sound { OnOk result (IsSound settings.new) }
-    ensures cause { IfErr result (λ why. Rests why (shelf_and_press (S.stock shelf.old) (S.faults shelf.old) (S.absent shelf.old) (P.faults press.old)) (shelf_and_press (S.stock shelf.new) (S.faults shelf.new) (S.absent shelf.new) (P.faults press.new))) }
-    ensures kept { Kept (shelf_and_press (S.stock shelf.old) (S.faults shelf.old) (S.absent shelf.old) (P.faults press.old)) (shelf_and_press (S.stock shelf.new) (S.faults shelf.new) (S.absent shelf.new) (P.faults press.new)) }
-    ensures stays { Stays result (shelf_and_press (S.stock shelf.old) (S.faults shelf.old) (S.absent shelf.old) (P.faults press.old)) (shelf_and_press (S.stock shelf.new) (S.faults shelf.new) (S.absent shelf.new) (P.faults press.new)) }
+    ensures cause { IfErr result (λ why. Rests why (seen_of (S.seen shelf.old) (P.seen press.old) (D.view disk.old).faults) (seen_of (S.seen shelf.new) (P.seen press.new) (D.view disk.new).faults)) }
+    ensures kept { Kept (seen_of (S.seen shelf.old) (P.seen press.old) (D.view disk.old).faults) (seen_of (S.seen shelf.new) (P.seen press.new) (D.view disk.new).faults) }
+    ensures stays { Stays result (seen_of (S.seen shelf.old) (P.seen press.old) (D.view disk.old).faults) (seen_of (S.seen shelf.new) (P.seen press.new) (D.view disk.new).faults) }
 {
     match command {
         Command::Units
@@ -59,6 +75,10 @@ pub fn execute<S: Shelf, P: Press, L: Ledger>(
         Command::Boundary(periodic) => decided(set_boundary(settings, periodic)),
         Command::AtomStyle(style) => on_of(set_style(settings, style)),
         Command::Processors(grid) => decided(set_processors(settings, grid)),
+        Command::Lattice(new) => decided(set_lattice(settings, &new)),
+        Command::Region(new) => changed(add_region(settings, alloc, new)),
+        Command::CreateBox(new) => changed(create_box(settings, alloc, &new)),
+        Command::CreateAtoms(new) => changed(create_atoms(settings, alloc, &new)),
         Command::ReadData(name) => on_of(read_data(alloc, settings, &name, shelf)),
         Command::Mass(mass) => changed(set_masses(settings, alloc, &mass)),
         Command::PairStyle(cutoff) => decided(set_pair_style(settings, cutoff)),
@@ -88,10 +108,7 @@ pub fn execute<S: Shelf, P: Press, L: Ledger>(
         Command::Print(text) => on_of(print(alloc, settings, &text, press)),
         Command::Log(name) => changed(set_log(alloc, settings, name)),
         Command::Variable(variable) => on_of(set_variable(alloc, settings, variable)),
-        Command::Clear => {
-            clear(alloc, settings);
-            Ok(Going::On)
-        }
+        Command::Clear => on_of(clear(alloc, settings)),
         Command::Quit => Ok(Going::Quit),
         _ => Err(Refusal::NotBuilt),
     }

@@ -1,5 +1,5 @@
 //! A line of a script: its words get what stands for their names, are read as a command, and it is carried out.
-ghost use Rattle.meaning.specs.Causes.{Counted, Kept, Rests, Stays, shelf_and_press};
+ghost use Rattle.meaning.specs.Causes.{Counted, Kept, Rests, Stays, seen_of};
 ghost use Rattle.meaning.specs.Lines.{has_formula, line_outcome, words_outcome};
 ghost use Rattle.session.specs.Refusals.{word_refusal};
 ghost use Rattle.meaning.specs.Sends.{Executes};
@@ -12,12 +12,15 @@ use crate::answers::widened;
 use crate::commands::execute;
 use crate::texts::substituted;
 use command_words::{WordRefusal, commands_keep_their_limits, read_command};
+use disk_outside::Disk;
+use external_force::{Callback, External, ExternalView, PullRule};
 use fx_num::{Steps, Text, Words};
 use meaning::{Code, Going, Refusal, Settings};
-use outside::{Press, Shelf};
+use outside::{Gate, Press, Shelf};
 use script_lines::{RawWord, RawWords};
 use std::alloc::Global;
 use std::sync::ledger::Ledger;
+use std::thread::Threads;
 
 /// Whether the two characters `$(` stand in a text.
 fn has_formula(text: &[u8]) -> bool
@@ -71,21 +74,34 @@ fn word_refusal(why: WordRefusal) -> Refusal
 }
 
 /// Carries out the command of words in which everything stands for something.
-fn run_words<S: Shelf, P: Press, L: Ledger>(
+fn run_words<
+    T: Threads + Sync,
+    S: Shelf,
+    P: Press,
+    D: Disk,
+    G: Gate,
+    F: Fn(&ExternalView) -> [i64; 3] + Callback,
+    R: PullRule,
+    L: Ledger,
+>(
+    rt: &T,
     alloc: Global,
     settings: &mut Settings,
     words: &Words,
     shelf: &mut S,
     press: &mut P,
+    disk: &mut D,
+    gate: &G,
+    external: &External<F, R>,
     steps: &mut Steps<L>,
 ) -> Result<Going, Refusal>
     requires sound { IsSound settings.old }
-    ensures does { (files : List File) → S.stock shelf.old ≡ Some files → Executes (words_outcome files settings.old words.now) (P.sent press.old) result (P.sent press.new) settings.new }
-    ensures counted { (files : List File) → S.stock shelf.old ≡ Some files → Counted (words_outcome files settings.old words.now).pairs steps.old result steps.new }
+    ensures does { (files : List File) → (S.seen shelf.old).stock ≡ Some files → Executes (words_outcome files settings.old words.now) (P.seen press.old).sent result (P.seen press.new).sent settings.new }
+    ensures counted { (files : List File) → (S.seen shelf.old).stock ≡ Some files → Counted (words_outcome files settings.old words.now).pairs steps.old result steps.new }
     ensures sound { OnOk result (IsSound settings.new) }
-    ensures cause { IfErr result (λ why. Rests why (shelf_and_press (S.stock shelf.old) (S.faults shelf.old) (S.absent shelf.old) (P.faults press.old)) (shelf_and_press (S.stock shelf.new) (S.faults shelf.new) (S.absent shelf.new) (P.faults press.new))) }
-    ensures kept { Kept (shelf_and_press (S.stock shelf.old) (S.faults shelf.old) (S.absent shelf.old) (P.faults press.old)) (shelf_and_press (S.stock shelf.new) (S.faults shelf.new) (S.absent shelf.new) (P.faults press.new)) }
-    ensures stays { Stays result (shelf_and_press (S.stock shelf.old) (S.faults shelf.old) (S.absent shelf.old) (P.faults press.old)) (shelf_and_press (S.stock shelf.new) (S.faults shelf.new) (S.absent shelf.new) (P.faults press.new)) }
+    ensures cause { IfErr result (λ why. Rests why (seen_of (S.seen shelf.old) (P.seen press.old) (D.view disk.old).faults) (seen_of (S.seen shelf.new) (P.seen press.new) (D.view disk.new).faults)) }
+    ensures kept { Kept (seen_of (S.seen shelf.old) (P.seen press.old) (D.view disk.old).faults) (seen_of (S.seen shelf.new) (P.seen press.new) (D.view disk.new).faults) }
+    ensures stays { Stays result (seen_of (S.seen shelf.old) (P.seen press.old) (D.view disk.old).faults) (seen_of (S.seen shelf.new) (P.seen press.new) (D.view disk.new).faults) }
 {
     if words.as_slice().is_empty() {
         return Err(Refusal::Code(Code::UnknownCommand));
@@ -95,34 +111,51 @@ fn run_words<S: Shelf, P: Press, L: Ledger>(
     }
     commands_keep_their_limits();
     match read_command(alloc, words) {
-        Ok(command) => execute(alloc, settings, command, shelf, press, steps),
+        Ok(command) => execute(
+            rt, alloc, settings, command, shelf, press, disk, gate, external, steps,
+        ),
         Err(why) => Err(word_refusal(why)),
     }
 }
 
 /// Carries out a line.
 #[tactic(auto, unfolding(meaning::specs::Lines::line_outcome))]
-pub(crate) fn run_line<S: Shelf, P: Press, L: Ledger>(
+pub(crate) fn run_line<
+    T: Threads + Sync,
+    S: Shelf,
+    P: Press,
+    D: Disk,
+    G: Gate,
+    F: Fn(&ExternalView) -> [i64; 3] + Callback,
+    R: PullRule,
+    L: Ledger,
+>(
+    rt: &T,
     alloc: Global,
     settings: &mut Settings,
     words: &RawWords,
     shelf: &mut S,
     press: &mut P,
+    disk: &mut D,
+    gate: &G,
+    external: &External<F, R>,
     steps: &mut Steps<L>,
 ) -> Result<Going, Refusal>
     requires sound { IsSound settings.old }
-    ensures does { (files : List File) → S.stock shelf.old ≡ Some files → Executes (line_outcome files settings.old words.now) (P.sent press.old) result (P.sent press.new) settings.new }
-    ensures counted { (files : List File) → S.stock shelf.old ≡ Some files → Counted (line_outcome files settings.old words.now).pairs steps.old result steps.new }
+    ensures does { (files : List File) → (S.seen shelf.old).stock ≡ Some files → Executes (line_outcome files settings.old words.now) (P.seen press.old).sent result (P.seen press.new).sent settings.new }
+    ensures counted { (files : List File) → (S.seen shelf.old).stock ≡ Some files → Counted (line_outcome files settings.old words.now).pairs steps.old result steps.new }
     ensures sound { OnOk result (IsSound settings.new) }
-    ensures cause { IfErr result (λ why. Rests why (shelf_and_press (S.stock shelf.old) (S.faults shelf.old) (S.absent shelf.old) (P.faults press.old)) (shelf_and_press (S.stock shelf.new) (S.faults shelf.new) (S.absent shelf.new) (P.faults press.new))) }
-    ensures kept { Kept (shelf_and_press (S.stock shelf.old) (S.faults shelf.old) (S.absent shelf.old) (P.faults press.old)) (shelf_and_press (S.stock shelf.new) (S.faults shelf.new) (S.absent shelf.new) (P.faults press.new)) }
-    ensures stays { Stays result (shelf_and_press (S.stock shelf.old) (S.faults shelf.old) (S.absent shelf.old) (P.faults press.old)) (shelf_and_press (S.stock shelf.new) (S.faults shelf.new) (S.absent shelf.new) (P.faults press.new)) }
+    ensures cause { IfErr result (λ why. Rests why (seen_of (S.seen shelf.old) (P.seen press.old) (D.view disk.old).faults) (seen_of (S.seen shelf.new) (P.seen press.new) (D.view disk.new).faults)) }
+    ensures kept { Kept (seen_of (S.seen shelf.old) (P.seen press.old) (D.view disk.old).faults) (seen_of (S.seen shelf.new) (P.seen press.new) (D.view disk.new).faults) }
+    ensures stays { Stays result (seen_of (S.seen shelf.old) (P.seen press.old) (D.view disk.old).faults) (seen_of (S.seen shelf.new) (P.seen press.new) (D.view disk.new).faults) }
 {
     if has_formula_in(words.as_slice()) {
         return Err(Refusal::NotBuilt);
     }
     match substituted(alloc, settings, words) {
-        Ok(words) => run_words(alloc, settings, &words, shelf, press, steps),
+        Ok(words) => run_words(
+            rt, alloc, settings, &words, shelf, press, disk, gate, external, steps,
+        ),
         Err(why) => Err(widened(why)),
     }
 }

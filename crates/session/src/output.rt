@@ -40,11 +40,11 @@ pub(crate) fn print<P: Press>(
     press: &mut P,
 ) -> Result<(), Refusal>
     requires sound { IsSound settings.old }
-    ensures does { Does (print text.now settings.old) (P.sent press.old) result (P.sent press.new) settings.new }
+    ensures does { Does (print text.now settings.old) (P.seen press.old).sent result (P.seen press.new).sent settings.new }
     ensures sound { OnOk result (IsSound settings.new) }
-    ensures cause { IfErr result (λ why. Rests why (press_alone (P.faults press.old)) (press_alone (P.faults press.new))) }
-    ensures kept { Kept (press_alone (P.faults press.old)) (press_alone (P.faults press.new)) }
-    ensures stays { Stays result (press_alone (P.faults press.old)) (press_alone (P.faults press.new)) }
+    ensures cause { IfErr result (λ why. Rests why (press_alone (P.seen press.old)) (press_alone (P.seen press.new))) }
+    ensures kept { Kept (press_alone (P.seen press.old)) (press_alone (P.seen press.new)) }
+    ensures stays { Stays result (press_alone (P.seen press.old)) (press_alone (P.seen press.new)) }
 {
     let line = match printed(alloc, settings, text) {
         Ok(line) => line,

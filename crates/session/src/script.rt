@@ -1,6 +1,6 @@
 //! Scripts, line by line.
 ghost use Rattle.log_output.specs.Errors.{fault_text};
-ghost use Rattle.meaning.specs.Causes.{Kept, shelf_and_press};
+ghost use Rattle.meaning.specs.Causes.{Kept, seen_of};
 ghost use Rattle.meaning.specs.Play.{End, ends_telling, failed_at, play, refused_line, unread_line};
 ghost use Rattle.meaning.specs.Sound.{IsSound};
 ghost use Rattle.outside.specs.declared.files.File.{File};
@@ -10,14 +10,17 @@ ghost use Rattle.std.specs.Prelude.{◌≡◌, ◌<◌, ◌≤◌, ◌^◌, ℕ,
 use crate::line::run_line;
 use crate::status::Status;
 use box_geo::FaultKey;
+use disk_outside::Disk;
+use external_force::{Callback, External, ExternalView, PullRule};
 use fx_num::{NoMemory, Steps, Text};
 use log_output::{fault_text, refusal_text};
 use meaning::{Code, Going, Output, Refusal, Settings};
-use outside::{Press, PutRefusal, Shelf};
+use outside::{Gate, Press, PutRefusal, Shelf};
 use script_lines::{LineRefusal, Place, line_from};
 use script_runs::show;
 use std::alloc::Global;
 use std::sync::ledger::Ledger;
+use std::thread::Threads;
 
 /// Shows the line of an error, and answers the status.
 fn tell<P: Press>(
@@ -27,9 +30,9 @@ fn tell<P: Press>(
     status: Status,
     press: &mut P,
 ) -> Status
-    ensures ends { (meant : End) → status_of meant ≡ status → EndsAs result (P.sent press.old) (ends_telling output.old text.now meant) (P.sent press.new) }
-    ensures told { IsTold (status) result (P.faults press.old) (P.faults press.new) }
-    ensures kept { P.faults press.old ≤ P.faults press.new }
+    ensures ends { (meant : End) → status_of meant ≡ status → EndsAs result (P.seen press.old).sent (ends_telling output.old text.now meant) (P.seen press.new).sent }
+    ensures told { IsTold (status) result (P.seen press.old).faults (P.seen press.new).faults }
+    ensures kept { (P.seen press.old).faults ≤ (P.seen press.new).faults }
 {
     match show(alloc, output, press, text.as_bytes()) {
         Ok(()) => status,
@@ -58,9 +61,9 @@ pub fn refuse<P: Press>(
     line: u32,
     press: &mut P,
 ) -> Status
-    ensures ends { EndsAs result (P.sent press.old) (refused_line output.old file.now line code) (P.sent press.new) }
-    ensures told { IsTold (Status.ScriptRefused code file.now line) result (P.faults press.old) (P.faults press.new) }
-    ensures kept { P.faults press.old ≤ P.faults press.new }
+    ensures ends { EndsAs result (P.seen press.old).sent (refused_line output.old file.now line code) (P.seen press.new).sent }
+    ensures told { IsTold (Status.ScriptRefused code file.now line) result (P.seen press.old).faults (P.seen press.new).faults }
+    ensures kept { (P.seen press.old).faults ≤ (P.seen press.new).faults }
 {
     let text = match refusal_text(alloc, code.name(), file.as_bytes(), line) {
         Ok(text) => text,
@@ -80,9 +83,9 @@ fn fail<P: Press>(
     step: u64,
     press: &mut P,
 ) -> Status
-    ensures ends { EndsAs result (P.sent press.old) (ends_telling output.old (fault_text key step) (failed_at key step)) (P.sent press.new) }
-    ensures told { IsTold (Status.RangeFault key step) result (P.faults press.old) (P.faults press.new) }
-    ensures kept { P.faults press.old ≤ P.faults press.new }
+    ensures ends { EndsAs result (P.seen press.old).sent (ends_telling output.old (fault_text key step) (failed_at key step)) (P.seen press.new).sent }
+    ensures told { IsTold (Status.RangeFault key step) result (P.seen press.old).faults (P.seen press.new).faults }
+    ensures kept { (P.seen press.old).faults ≤ (P.seen press.new).faults }
 {
     match fault_text(alloc, &key, step) {
         Ok(text) => tell(
@@ -105,9 +108,9 @@ fn end_by<P: Press>(
     line: u32,
     press: &mut P,
 ) -> Status
-    ensures ends { EndsLine why output.old file.now line result (P.sent press.old) (P.sent press.new) }
-    ensures told { IsTold (line_status why file.now line) result (P.faults press.old) (P.faults press.new) }
-    ensures kept { P.faults press.old ≤ P.faults press.new }
+    ensures ends { EndsLine why output.old file.now line result (P.seen press.old).sent (P.seen press.new).sent }
+    ensures told { IsTold (line_status why file.now line) result (P.seen press.old).faults (P.seen press.new).faults }
+    ensures kept { (P.seen press.old).faults ≤ (P.seen press.new).faults }
 {
     match why {
         Refusal::Code(code) => refuse(alloc, output, code, file, line, press),
@@ -131,9 +134,9 @@ fn end_unread<P: Press>(
     file: &Text,
     press: &mut P,
 ) -> Status
-    ensures ends { EndsAs result (P.sent press.old) (unread_line output.old file.now why) (P.sent press.new) }
-    ensures told { IsTold (unread_status why file.now) result (P.faults press.old) (P.faults press.new) }
-    ensures kept { P.faults press.old ≤ P.faults press.new }
+    ensures ends { EndsAs result (P.seen press.old).sent (unread_line output.old file.now why) (P.seen press.new).sent }
+    ensures told { IsTold (unread_status why file.now) result (P.seen press.old).faults (P.seen press.new).faults }
+    ensures kept { (P.seen press.old).faults ≤ (P.seen press.new).faults }
 {
     match why {
         LineRefusal::UnclosedQuote(line) => {
@@ -148,22 +151,35 @@ fn end_unread<P: Press>(
 }
 
 /// Plays the script of a text, whose file has this name: its lines one after another.
-pub fn play<S: Shelf, P: Press, L: Ledger>(
+pub fn play<
+    T: Threads + Sync,
+    S: Shelf,
+    P: Press,
+    D: Disk,
+    G: Gate,
+    F: Fn(&ExternalView) -> [i64; 3] + Callback,
+    R: PullRule,
+    L: Ledger,
+>(
+    rt: &T,
     alloc: Global,
     settings: Settings,
     file: &Text,
     text: &Text,
     shelf: &mut S,
     press: &mut P,
+    disk: &mut D,
+    gate: &G,
+    external: &External<F, R>,
     steps: &mut Steps<L>,
 ) -> Status
     requires sound { IsSound settings }
     requires short { length text.now < 2 ^ 32 }
-    ensures ends { (files : List File) → S.stock shelf.old ≡ Some files → EndsAs result (P.sent press.old) (play files file.now text.now settings) (P.sent press.new) }
-    ensures counted { (files : List File) → S.stock shelf.old ≡ Some files → StatusCounted (play files file.now text.now settings).pairs steps.old result steps.new }
-    ensures cause { StatusRests result (shelf_and_press (S.stock shelf.old) (S.faults shelf.old) (S.absent shelf.old) (P.faults press.old)) (shelf_and_press (S.stock shelf.new) (S.faults shelf.new) (S.absent shelf.new) (P.faults press.new)) }
-    ensures kept { Kept (shelf_and_press (S.stock shelf.old) (S.faults shelf.old) (S.absent shelf.old) (P.faults press.old)) (shelf_and_press (S.stock shelf.new) (S.faults shelf.new) (S.absent shelf.new) (P.faults press.new)) }
-    ensures stays { StatusStays result (shelf_and_press (S.stock shelf.old) (S.faults shelf.old) (S.absent shelf.old) (P.faults press.old)) (shelf_and_press (S.stock shelf.new) (S.faults shelf.new) (S.absent shelf.new) (P.faults press.new)) }
+    ensures ends { (files : List File) → (S.seen shelf.old).stock ≡ Some files → EndsAs result (P.seen press.old).sent (play files file.now text.now settings) (P.seen press.new).sent }
+    ensures counted { (files : List File) → (S.seen shelf.old).stock ≡ Some files → StatusCounted (play files file.now text.now settings).pairs steps.old result steps.new }
+    ensures cause { StatusRests result (seen_of (S.seen shelf.old) (P.seen press.old) (D.view disk.old).faults) (seen_of (S.seen shelf.new) (P.seen press.new) (D.view disk.new).faults) }
+    ensures kept { Kept (seen_of (S.seen shelf.old) (P.seen press.old) (D.view disk.old).faults) (seen_of (S.seen shelf.new) (P.seen press.new) (D.view disk.new).faults) }
+    ensures stays { StatusStays result (seen_of (S.seen shelf.old) (P.seen press.old) (D.view disk.old).faults) (seen_of (S.seen shelf.new) (P.seen press.new) (D.view disk.new).faults) }
     ensures no_usage { (place : ℕ) → result ≡ Status.Usage place → ⊥ }
 {
     let mut settings = settings;
@@ -174,7 +190,18 @@ pub fn play<S: Shelf, P: Press, L: Ledger>(
             Ok(None) => return Status::Done,
             Err(why) => return end_unread(alloc, &mut settings.output, why, file, press),
         };
-        match run_line(alloc, &mut settings, &line.words, shelf, press, steps) {
+        match run_line(
+            rt,
+            alloc,
+            &mut settings,
+            &line.words,
+            shelf,
+            press,
+            disk,
+            gate,
+            external,
+            steps,
+        ) {
             Ok(Going::On) => place = line.next,
             Ok(Going::Quit) => return Status::Done,
             Err(why) => {

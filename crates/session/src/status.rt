@@ -25,7 +25,7 @@ pub enum Status {
     NoMemory,
     /// The words are no command line: the place of the first wrong word, or the number of words where one is missing.
     Usage { place: u64 },
-    /// A command of this line, or the form of its data file, is not built yet.
+    /// A command of this line is not built yet.
     NotBuilt { file: Text, line: u32 },
 }
 

@@ -10,7 +10,7 @@ use Rattle.box_geo.specs.declared.limits.TheConstants.{MAX_ID}
 use Rattle.box_geo.specs.declared.sim_box.Sides.{Sides}
 use Rattle.box_geo.specs.Fault.{FitsWord, key_word, kind_number, no_fault, phase_number}
 use Rattle.box_geo.specs.Sides.{x_of, y_of, z_of}
-use Rattle.pair_lj.specs.declared.table.PairTable.{PairTable}
+use Rattle.pair_lj.specs.Table.{Table}
 use Rattle.serial_step.specs.Forces.{Field, force_word, forces_fault, is_too_great, least, terms_fault, with_forces, word}
 use Rattle.serial_step.specs.Pairs.{word_between}
 use Rattle.serial_step.proofs.LeastLemmas.{least-cons, least-le}
@@ -55,7 +55,7 @@ none_found field s atoms xs w v is none on so last =
     found_in_forces field s atoms xs w v is none on so ∙ omega (arith, least-le (map force_word xs))
 
 -- with no fault each force is in its range
-pub ids_of_placed : (t : PairTable) (s : Sides) (atoms : List Atom) → All (IsPlaced t s) atoms → All (λ a. a.id ≤ MAX_ID) atoms
+pub ids_of_placed : (t : Table) (s : Sides) (atoms : List Atom) → All (IsPlaced t s) atoms → All (λ a. a.id ≤ MAX_ID) atoms
 ids_of_placed t s atoms all = All-weaker (IsPlaced t s) (λ a. a.id ≤ MAX_ID) (λ a h. h.id) atoms all
 
 not_judged : (b : Bool) (w : ℕ) → no_fault ≤ cond b w no_fault → w < no_fault → b ≡ false

@@ -1,6 +1,5 @@
 -- Atoms that have the force of the first of a list: one row more, their places and their bounds.
 use Rattle.std.proofs.Common.{◌≡◌, ◌+◌, ◌-◌, ◌*◌, ◌^◌, ◌<◌, ◌≤◌, ◌==◌, Bool, true, false, ℕ, ℤ, pos, ◌+ℤ◌, ◌-ℤ◌, neg_ℤ, unsigned_abs, Option, Some, None, Result, Ok, Err, IfOk, IfSome, List, [], ◌∷◌, ◌++◌, All, length, length-take-le, map, take, drop, get_or, refl, sym, ap, subst, ◌∙◌, append_assoc, arith}
-use Rattle.std.specs.Option.{option_map}
 use Rattle.std.proofs.lemmas.Int.{ints}
 use Rattle.std.proofs.lemmas.List.{append-nil, drop_all, drop_at, drop_more, length-drop, length-map, map-append, take_all, take_at, take_more, take-append-drop, take_rest}
 use Rattle.std.proofs.lemmas.List.Elements.{All-drop, All-map, All-weaker}
@@ -11,14 +10,13 @@ use Rattle.box_geo.specs.declared.sim_box.Sides.{Sides}
 use Rattle.box_geo.specs.declared.term.Term.{Term}
 use Rattle.box_geo.specs.Sides.{x_of, y_of, z_of, HasEdges, near_image}
 use Rattle.pair_lj.specs.declared.close.Close.{Close}
-use Rattle.pair_lj.specs.declared.coefficients.Coefficients.{Coefficients}
-use Rattle.pair_lj.specs.declared.table.PairTable.{PairTable}
+use Rattle.pair_lj.specs.Table.{Table}
 use Rattle.pair_lj.specs.PairTerm.{IsModerate, HasModerateForce, IsOpposite}
-use Rattle.pair_lj.specs.Table.{coefficients_at}
+use Rattle.pair_lj.specs.Pairs.{PairNumbers, numbers_at}
 use Rattle.pair_lj.proofs.PairLemmas.{pair_term-bounded}
 use Rattle.sums.specs.Totals.{total}
 use Rattle.sums.proofs.Totals.{total-append, total-map}
-use Rattle.serial_step.specs.Forces.{Field, numbers_of, field_of, term_apart, term_of, force_of, energy_of, virial_of, close_word, force_on, least, with_force, with_forces}
+use Rattle.serial_step.specs.Forces.{Field, field_of, term_apart, term_of, force_of, energy_of, virial_of, close_word, force_on, least, with_force, with_forces}
 use Rattle.serial_step.specs.Pairs.{IsFair}
 use Rattle.serial_step.proofs.ForceLemmas.{force_of-opposite, term_of-opposite, term_of-alone}
 use Rattle.step_engine.specs.declared.rows.Row.{Row}
@@ -162,16 +160,16 @@ all_forced field s atoms xs i all is =
     ∙ ap (map (forced field s atoms)) (take_all i atoms all)
 
 -- the atoms stay in their places
-placed_forced : (t : PairTable) (s : Sides) (f : Atom → List ℤ) (atoms : List Atom) → All (IsPlaced t s) atoms → All (IsPlaced t s) (map (λ a. with_force a (f a)) atoms)
+placed_forced : (t : Table) (s : Sides) (f : Atom → List ℤ) (atoms : List Atom) → All (IsPlaced t s) atoms → All (IsPlaced t s) (map (λ a. with_force a (f a)) atoms)
 placed_forced t s f atoms all =
     All-map (IsPlaced t s) (λ a. with_force a (f a)) atoms
     (All-weaker (IsPlaced t s) (λ a. IsPlaced t s (with_force a (f a))) (λ a h. record { inside = h.inside; kind = h.kind; id = h.id }) atoms all)
 
-pub placed_with_forces : (t : PairTable) (field : Field) (s : Sides) (atoms xs : List Atom) → xs ≡ with_forces field s atoms → All (IsPlaced t s) atoms → All (IsPlaced t s) xs
+pub placed_with_forces : (t : Table) (field : Field) (s : Sides) (atoms xs : List Atom) → xs ≡ with_forces field s atoms → All (IsPlaced t s) atoms → All (IsPlaced t s) xs
 unfolding with_forces
 placed_with_forces t field s atoms xs is all = subst (All (IsPlaced t s)) (sym is) (placed_forced t s (force_on field s atoms) atoms all)
 
-pub placed_behind : (t : PairTable) (field : Field) (s : Sides) (atoms xs : List Atom) (i : ℕ) → i ≤ length atoms → xs ≡ forced_up_to field s atoms i → All (IsPlaced t s) atoms → All (IsPlaced t s) (take (length xs - i) (drop i xs))
+pub placed_behind : (t : Table) (field : Field) (s : Sides) (atoms xs : List Atom) (i : ℕ) → i ≤ length atoms → xs ≡ forced_up_to field s atoms i → All (IsPlaced t s) atoms → All (IsPlaced t s) (take (length xs - i) (drop i xs))
 placed_behind t field s atoms xs i low is all =
     subst (All (IsPlaced t s)) (sym (all_behind field s atoms xs i low is))
     (placed_forced t s (force_on field s (take i atoms)) (drop i atoms) (All-drop (IsPlaced t s) i atoms all))
@@ -182,33 +180,33 @@ moderate_outcome (Ok (Some t)) h = h
 moderate_outcome (Ok None) h = (omega arith, omega arith, omega arith)
 moderate_outcome (Err close) h = (omega arith, omega arith, omega arith)
 
-moderate_apart : (b : Bool) (o : Option Coefficients) (d : List ℤ) → IsModerate (force_of (term_apart b (2 ^ 24) (option_map numbers_of o) d))
+moderate_apart : (b : Bool) (o : Option PairNumbers) (d : List ℤ) → IsModerate (force_of (term_apart b (2 ^ 24) o d))
 moderate_apart true o d = (omega arith, omega arith, omega arith)
 moderate_apart false None d = (omega arith, omega arith, omega arith)
 moderate_apart false (Some k) d = moderate_outcome _ (pair_term-bounded k.epsilon k.sigma k.cutoff (2 ^ 24) (pos 0) d (omega arith))
 
-moderate : (t : PairTable) (s : Sides) (i j : Atom) → IsModerate (force_of (term_of (field_of t) s i j))
+moderate : (t : Table) (s : Sides) (i j : Atom) → IsModerate (force_of (term_of (field_of t.pairs) s i j))
 unfolding term_of
-moderate t s i j = moderate_apart (i.id == j.id) (coefficients_at t i.kind j.kind) (near_image s i.x j.x)
+moderate t s i j = moderate_apart (i.id == j.id) (numbers_at t.pairs i.kind j.kind) (near_image s i.x j.x)
 
 total_within : (f : Atom → ℤ) → ((a : Atom) → unsigned_abs (f a) ≤ 2 ^ 42) → (xs : List Atom) → unsigned_abs (total f xs) ≤ 2 ^ 42 * length xs
 total_within f low [] = omega arith
 total_within f low (x ∷ xs) = omega (arith, ints, low x, total_within f low xs)
 
-force_within : (t : PairTable) (s : Sides) (atoms : List Atom) (own : Atom) → IsWithin (2 ^ 42 * length atoms) (force_on (field_of t) s atoms own)
+force_within : (t : Table) (s : Sides) (atoms : List Atom) (own : Atom) → IsWithin (2 ^ 42 * length atoms) (force_on (field_of t.pairs) s atoms own)
 unfolding force_on
 force_within t s atoms own = (
-  total_within (λ other. x_of (force_of (term_of (field_of t) s own other))) (λ other. let h = moderate t s own other in h.0) atoms,
-  total_within (λ other. y_of (force_of (term_of (field_of t) s own other))) (λ other. let h = moderate t s own other in h.1) atoms,
-  total_within (λ other. z_of (force_of (term_of (field_of t) s own other))) (λ other. let h = moderate t s own other in h.2) atoms,
+  total_within (λ other. x_of (force_of (term_of (field_of t.pairs) s own other))) (λ other. let h = moderate t s own other in h.0) atoms,
+  total_within (λ other. y_of (force_of (term_of (field_of t.pairs) s own other))) (λ other. let h = moderate t s own other in h.1) atoms,
+  total_within (λ other. z_of (force_of (term_of (field_of t.pairs) s own other))) (λ other. let h = moderate t s own other in h.2) atoms,
 )
 
-mild : (t : PairTable) (s : Sides) (atoms : List Atom) (own : Atom) → length atoms < 2 ^ 20 → IsWithin (2 ^ 62 - 1) (force_on (field_of t) s atoms own)
+mild : (t : Table) (s : Sides) (atoms : List Atom) (own : Atom) → length atoms < 2 ^ 20 → IsWithin (2 ^ 62 - 1) (force_on (field_of t.pairs) s atoms own)
 mild t s atoms own few = let h = force_within t s atoms own in (omega (arith, h.0), omega (arith, h.1), omega (arith, h.2))
 
-pub mild_behind : (t : PairTable) (s : Sides) (atoms xs : List Atom) (i : ℕ) → i < length atoms → length atoms ≤ 2 ^ 20 → xs ≡ forced_up_to (field_of t) s atoms i → All (λ a. IsWithin (2 ^ 62 - 1) a.f) (take (length xs - i) (drop i xs))
+pub mild_behind : (t : Table) (s : Sides) (atoms xs : List Atom) (i : ℕ) → i < length atoms → length atoms ≤ 2 ^ 20 → xs ≡ forced_up_to (field_of t.pairs) s atoms i → All (λ a. IsWithin (2 ^ 62 - 1) a.f) (take (length xs - i) (drop i xs))
 mild_behind t s atoms xs i lt few is =
     let P : Atom → Type 0 = λ a. IsWithin (2 ^ 62 - 1) a.f in
     let short : length (take i atoms) < 2 ^ 20 = omega (arith, length-take-le i atoms (omega arith)) in
-    subst (All P) (sym (all_behind (field_of t) s atoms xs i (omega arith) is))
-    (All-map P (forced (field_of t) s (take i atoms)) (drop i atoms) (λ k d _. mild t s (take i atoms) (get_or (drop i atoms) k d) short))
+    subst (All P) (sym (all_behind (field_of t.pairs) s atoms xs i (omega arith) is))
+    (All-map P (forced (field_of t.pairs) s (take i atoms)) (drop i atoms) (λ k d _. mild t s (take i atoms) (get_or (drop i atoms) k d) short))

@@ -1,7 +1,6 @@
 -- A row of pairs: its term, its sums and its bounds.
 use Rattle.std.proofs.Common.{◌≡◌, ◌+◌, ◌-◌, ◌^◌, ◌<◌, ◌≤◌, ◌==◌, Bool, false, ℕ, ℤ, pos, ◌+ℤ◌, ◌-ℤ◌, unsigned_abs, Option, Some, None, Result, Ok, Err, IsSomeAnd, List, [], ◌∷◌, ◌++◌, All, length, length-take-le, map, take, drop, get_or, set, w64, to_z, of_z, refl, sym, ap, subst, ◌∙◌, arith, min}
 use Rattle.std.specs.Int.{w128}
-use Rattle.std.specs.Option.{option_map}
 use Rattle.std.proofs.lemmas.Int.{ints}
 use Rattle.std.proofs.lemmas.Bool.Decides.{nat_tests}
 use Rattle.std.proofs.lemmas.List.{map-append, length-map, take_more, get_or-append_right, get_or-drop, get_or_default}
@@ -13,11 +12,9 @@ use Rattle.box_geo.specs.declared.term.Term.{Term}
 use Rattle.box_geo.specs.Fault.{no_fault}
 use Rattle.box_geo.specs.Sides.{x_of, y_of, z_of, near_image}
 use Rattle.pair_lj.specs.declared.close.Close.{Close}
-use Rattle.pair_lj.specs.declared.coefficients.Coefficients.{Coefficients}
-use Rattle.pair_lj.specs.declared.table.PairTable.{PairTable}
-use Rattle.pair_lj.specs.PairTerm.{pair_term}
-use Rattle.pair_lj.specs.Table.{coefficients_at}
-use Rattle.serial_step.specs.Forces.{Field, numbers_of, field_of, term_with, term_apart, term_of, force_of, energy_of, virial_of, close_word, force_on, least}
+use Rattle.pair_lj.specs.declared.pair_settings.PairCoefficients.{PairCoefficients}
+use Rattle.pair_lj.specs.Pairs.{PairNumbers, numbers_at, term_by}
+use Rattle.serial_step.specs.Forces.{Field, field_of, term_with, term_apart, term_of, force_of, energy_of, virial_of, close_word, force_on, least}
 use Rattle.sums.specs.Totals.{total}
 use Rattle.sums.proofs.Totals.{total-append}
 use Rattle.serial_step.proofs.LeastLemmas.{least-append, least-cons, least-le}
@@ -55,24 +52,24 @@ difference_is a b h k =
     (small_difference (y_of a) (y_of b) (omega (arith, h.1)) (omega (arith, k.1)))
     (small_difference (z_of a) (z_of b) (omega (arith, h.2)) (omega (arith, k.2)))
 
--- the term of a pair, by the coefficients of a table
-by_coefficients : (o : Option Coefficients) (d : List ℤ) (r : Result (Option Term) Close) → IsSomeAnd o (λ k. r ≡ pair_term k.epsilon k.sigma k.cutoff (pos 0) (2 ^ 24) d) → r ≡ term_with (2 ^ 24) (option_map numbers_of o) d
-by_coefficients None d r h = absurd h
-by_coefficients (Some k) d r h = h
+-- the term of a pair, by the numbers of its types
+by_numbers : (o : Option PairNumbers) (d : List ℤ) (r : Result (Option Term) Close) → IsSomeAnd o (λ k. r ≡ term_by k (2 ^ 24) d) → r ≡ term_with (2 ^ 24) o d
+by_numbers None d r h = absurd h
+by_numbers (Some k) d r h = h
 
-apart : (b : Bool) (w : ℕ) (o : Option Coefficients) (d : List ℤ) → b ≡ false → term_apart b w (option_map numbers_of o) d ≡ term_with w (option_map numbers_of o) d
+apart : (b : Bool) (w : ℕ) (o : Option PairNumbers) (d : List ℤ) → b ≡ false → term_apart b w o d ≡ term_with w o d
 apart b w o d e = rw e refl
 
 differ : (m n : ℕ) → (m ≡ n → ⊥) → (m == n) ≡ false
 differ m n h = grind (arith, nat_tests)
 
-pub term_is : (table : PairTable) (s : Sides) (i j : Atom) (r : Result (Option Term) Close) → (i.id ≡ j.id → ⊥)
-    → IsSomeAnd (coefficients_at table i.kind j.kind) (λ k. r ≡ pair_term k.epsilon k.sigma k.cutoff (pos 0) (2 ^ 24) (near_image s i.x j.x))
-    → r ≡ term_of (field_of table) s i j
+pub term_is : (pairs : List PairCoefficients) (s : Sides) (i j : Atom) (r : Result (Option Term) Close) → (i.id ≡ j.id → ⊥)
+    → IsSomeAnd (numbers_at pairs i.kind j.kind) (λ k. r ≡ term_by k (2 ^ 24) (near_image s i.x j.x))
+    → r ≡ term_of (field_of pairs) s i j
 unfolding term_of
-term_is table s i j r other h =
-    by_coefficients (coefficients_at table i.kind j.kind) (near_image s i.x j.x) r h
-    ∙ sym (apart (i.id == j.id) (2 ^ 24) (coefficients_at table i.kind j.kind) (near_image s i.x j.x) (differ i.id j.id other))
+term_is pairs s i j r other h =
+    by_numbers (numbers_at pairs i.kind j.kind) (near_image s i.x j.x) r h
+    ∙ sym (apart (i.id == j.id) (2 ^ 24) (numbers_at pairs i.kind j.kind) (near_image s i.x j.x) (differ i.id j.id other))
 
 -- the sums with a term more
 abbrev pub read_wide : ℤ → ℤ

@@ -79,10 +79,10 @@ started system field skin atoms references f s dt step a room same at =
     )
 
 -- the state after a call that wrote forces over the atoms
-pub forces_ready : {T E : Type 0} (result : Result T E) (r : Rules) (s : State) (n : ℕ) (lent new : List Atom) → IsState r s → lent ≡ s.atoms → length new ≡ length s.atoms → length s.atoms ≡ n → OnOk result (new ≡ with_forces (field_of r.field.pairs) r.cell.sides lent) → OnOk result (All (λ a. IsWithin (2 ^ 44) a.f) new) → OnOk result (IsState r record s { atoms = take n (new ++ drop (length new) s.atoms) })
+pub forces_ready : {T E : Type 0} (result : Result T E) (r : Rules) (s : State) (n : ℕ) (lent new : List Atom) → IsState r s → lent ≡ s.atoms → length new ≡ length s.atoms → length s.atoms ≡ n → OnOk result (new ≡ with_forces (field_of r.field.pairs.pairs) r.cell.sides lent) → OnOk result (All (λ a. IsWithin (2 ^ 44) a.f) new) → OnOk result (IsState r record s { atoms = take n (new ++ drop (length new) s.atoms) })
 forces_ready (Err e) r s n lent new h same size len is range = tt
 forces_ready (Ok t) r s n lent new h same size len is range =
-    let sound : AreAtoms r new = forced r (field_of r.field.pairs) r.cell.sides s.atoms new h.atoms (is ∙ ap (with_forces (field_of r.field.pairs) r.cell.sides) same) range in
+    let sound : AreAtoms r new = forced r (field_of r.field.pairs.pairs) r.cell.sides s.atoms new h.atoms (is ∙ ap (with_forces (field_of r.field.pairs.pairs) r.cell.sides) same) range in
     subst (λ (xs : List Atom). IsState r record s { atoms = xs }) (sym (written n new s.atoms size len)) (with_new r s new h sound size)
 
 -- the state after calls that wrote over the atoms and then their positions over the references

@@ -18,7 +18,7 @@ abbrev pub after_drift : List NamedFix → World → World
 after_drift fixes w = record w { state = referenced (setting_of w.rules fixes) w.state (atoms_of (map (drifted (setting_of w.rules fixes)) w.state.atoms)) }
 
 abbrev pub after_forces : World → World
-after_forces w = with_atoms w (with_forces (field_of w.rules.field.pairs) w.rules.cell.sides w.state.atoms)
+after_forces w = with_atoms w (with_forces (field_of w.rules.field.pairs.pairs) w.rules.cell.sides w.state.atoms)
 
 abbrev pub after_kick : List NamedFix → World → World
 after_kick fixes w = with_atoms w (atoms_of (map (kicked_again (setting_of w.rules fixes)) w.state.atoms))
@@ -45,21 +45,21 @@ pub drift_fault : (t : Setting) (s : State) → fault_of (map (drifted t) s.atom
 unfolding serial_step
 drift_fault t s some = earlier_is (fault_of (map (drifted t) s.atoms)) _ some
 
-pub force_fault : (fixes : List NamedFix) (w d : World) (word : ℕ) → d ≡ after_drift fixes w → fault_of (map (drifted (setting_of w.rules fixes)) w.state.atoms) ≡ no_fault → word ≡ forces_fault (field_of d.rules.field.pairs) d.rules.cell.sides d.state.atoms → word < no_fault → (serial_step (setting_of w.rules fixes) w.state).fault ≡ word
+pub force_fault : (fixes : List NamedFix) (w d : World) (word : ℕ) → d ≡ after_drift fixes w → fault_of (map (drifted (setting_of w.rules fixes)) w.state.atoms) ≡ no_fault → word ≡ forces_fault (field_of d.rules.field.pairs.pairs) d.rules.cell.sides d.state.atoms → word < no_fault → (serial_step (setting_of w.rules fixes) w.state).fault ≡ word
 unfolding serial_step
 force_fault fixes w d word ed none is some =
-    let same : word ≡ forces_fault (field_of w.rules.field.pairs) w.rules.cell.sides (after_drift fixes w).state.atoms = is ∙ ap (λ (u : World). forces_fault (field_of u.rules.field.pairs) u.rules.cell.sides u.state.atoms) ed in
+    let same : word ≡ forces_fault (field_of w.rules.field.pairs.pairs) w.rules.cell.sides (after_drift fixes w).state.atoms = is ∙ ap (λ (u : World). forces_fault (field_of u.rules.field.pairs.pairs) u.rules.cell.sides u.state.atoms) ed in
     later_is (fault_of (map (drifted (setting_of w.rules fixes)) w.state.atoms)) _ none
-    ∙ earlier_is (forces_fault (field_of w.rules.field.pairs) w.rules.cell.sides (after_drift fixes w).state.atoms) _ (omega (arith, same))
+    ∙ earlier_is (forces_fault (field_of w.rules.field.pairs.pairs) w.rules.cell.sides (after_drift fixes w).state.atoms) _ (omega (arith, same))
     ∙ sym same
 
-pub kick_fault : (fixes : List NamedFix) (w d f : World) (word : ℕ) → d ≡ after_drift fixes w → f ≡ after_forces d → fault_of (map (drifted (setting_of w.rules fixes)) w.state.atoms) ≡ no_fault → forces_fault (field_of d.rules.field.pairs) d.rules.cell.sides d.state.atoms ≡ no_fault → word ≡ fault_of (map (kicked_again (setting_of f.rules fixes)) f.state.atoms) → (serial_step (setting_of w.rules fixes) w.state).fault ≡ word
+pub kick_fault : (fixes : List NamedFix) (w d f : World) (word : ℕ) → d ≡ after_drift fixes w → f ≡ after_forces d → fault_of (map (drifted (setting_of w.rules fixes)) w.state.atoms) ≡ no_fault → forces_fault (field_of d.rules.field.pairs.pairs) d.rules.cell.sides d.state.atoms ≡ no_fault → word ≡ fault_of (map (kicked_again (setting_of f.rules fixes)) f.state.atoms) → (serial_step (setting_of w.rules fixes) w.state).fault ≡ word
 unfolding serial_step
 kick_fault fixes w d f word ed ef none sound is =
-    let same : forces_fault (field_of w.rules.field.pairs) w.rules.cell.sides (after_drift fixes w).state.atoms ≡ no_fault = sym (ap (λ (u : World). forces_fault (field_of u.rules.field.pairs) u.rules.cell.sides u.state.atoms) ed) ∙ sound in
+    let same : forces_fault (field_of w.rules.field.pairs.pairs) w.rules.cell.sides (after_drift fixes w).state.atoms ≡ no_fault = sym (ap (λ (u : World). forces_fault (field_of u.rules.field.pairs.pairs) u.rules.cell.sides u.state.atoms) ed) ∙ sound in
     let kicked : word ≡ fault_of (map (kicked_again (setting_of w.rules fixes)) (after_forces (after_drift fixes w)).state.atoms) = is ∙ ap (λ (u : World). fault_of (map (kicked_again (setting_of u.rules fixes)) u.state.atoms)) (ef ∙ ap after_forces ed) in
     later_is (fault_of (map (drifted (setting_of w.rules fixes)) w.state.atoms)) _ none
-    ∙ later_is (forces_fault (field_of w.rules.field.pairs) w.rules.cell.sides (after_drift fixes w).state.atoms) _ same
+    ∙ later_is (forces_fault (field_of w.rules.field.pairs.pairs) w.rules.cell.sides (after_drift fixes w).state.atoms) _ same
     ∙ sym kicked
 
 -- how many pairs there are

@@ -25,7 +25,7 @@ pub record World : Type 0 where
 -- the setting of the serial step, with the fixes that move atoms
 abbrev pub setting_of : Rules → List NamedFix → Setting
 setting_of r fixes = record {
-  field = field_of r.field.pairs;
+  field = field_of r.field.pairs.pairs;
   sides = r.cell.sides;
   dt = r.dt;
   mass = r.mass;

@@ -4,8 +4,7 @@ use Rattle.box_geo.specs.declared.atoms.Atom.{Atom}
 use Rattle.box_geo.specs.declared.limits.TheConstants.{MAX_ATOMS, MAX_CUTOFF, MAX_FORCE, MAX_ID, MAX_IMAGE, MAX_MASS, MAX_SKIN, MAX_SPEED, MAX_STEP, MAX_TIMESTEP, MIN_MASS}
 use Rattle.box_geo.specs.declared.sim_box.Sides.{Sides}
 use Rattle.box_geo.specs.Sides.{IsInside, edge, x_of, y_of, z_of}
-use Rattle.pair_lj.specs.declared.table.PairTable.{PairTable}
-use Rattle.pair_lj.specs.Table.{IsFinished, IsType}
+use Rattle.pair_lj.specs.Table.{IsFinished, IsType, Table}
 use Rattle.serial_step.specs.Forces.{field_of}
 use Rattle.serial_step.specs.Pairs.{IsReach}
 use Rattle.serial_step.specs.Room.{edge_too_small}
@@ -23,7 +22,7 @@ abbrev pub HasMass : List ℤ → ℕ → Type 0
 HasMass mass kind = (1 ≤ kind) × (kind ≤ length mass) × (MIN_MASS ≤ℤ slice_index_or mass (kind - 1) (pos 1)) × (slice_index_or mass (kind - 1) (pos 1) ≤ℤ MAX_MASS)
 
 -- what pair terms ask of an atom: a position inside the box, a type of the table, an id within the limits
-pub record IsPlaced (pairs : PairTable) (s : Sides) (a : Atom) : Type 0 where
+pub record IsPlaced (pairs : Table) (s : Sides) (a : Atom) : Type 0 where
   pub inside : IsInside s a.x
   pub kind : IsType pairs a.kind
   pub id : a.id ≤ MAX_ID
@@ -40,7 +39,7 @@ pub record IsForceField (field : ForceField) : Type 0 where
   pub finished : IsFinished field.pairs
   pub low : pos 0 <ℤ field.rcmax
   pub high : field.rcmax ≤ℤ MAX_CUTOFF
-  pub reach : IsReach (field_of field.pairs) (unsigned_abs field.rcmax)
+  pub reach : IsReach (field_of field.pairs.pairs) (unsigned_abs field.rcmax)
 
 pub record IsSkin (skin : ℤ) : Type 0 where
   pub low : pos 0 ≤ℤ skin

@@ -156,12 +156,12 @@ impl Engine {
     ) -> Result<Tally, FaultKey>
         requires rules { AreRules self.old.rules }
         requires state { IsState self.old.rules self.old.state }
-        ensures system { OnOk result (self.new ≡ with_atoms self.old (with_forces (field_of self.old.rules.field.pairs) self.old.rules.cell.sides self.old.state.atoms)) }
+        ensures system { OnOk result (self.new ≡ with_atoms self.old (with_forces (field_of self.old.rules.field.pairs.pairs) self.old.rules.cell.sides self.old.state.atoms)) }
         ensures sums { IfOk result (λ t. t ≡ tally_of (sums_of (setting_of self.old.rules fixes.now) self.old.state.atoms)) }
         ensures small { IfOk result (IsSmall self.old.rules.cell.sides (length self.old.state.atoms)) }
-        ensures sound { OnOk result (forces_fault (field_of self.old.rules.field.pairs) self.old.rules.cell.sides self.old.state.atoms ≡ no_fault) }
+        ensures sound { OnOk result (forces_fault (field_of self.old.rules.field.pairs.pairs) self.old.rules.cell.sides self.old.state.atoms ≡ no_fault) }
         ensures ready { OnOk result (IsState self.new.rules self.new.state) }
-        ensures fault { IfErr result (IsKeyOf (forces_fault (field_of self.old.rules.field.pairs) self.old.rules.cell.sides self.old.state.atoms)) }
+        ensures fault { IfErr result (IsKeyOf (forces_fault (field_of self.old.rules.field.pairs.pairs) self.old.rules.cell.sides self.old.state.atoms)) }
         ensures steps { steps.new ≡ steps.old + length (half self.old.state.atoms) }
     {
         let reach = Reach::new(&self.rules.field, &self.rules.cell);

@@ -40,14 +40,14 @@ pub(crate) fn evaluate_forces<L: Ledger>(
     steps: &mut Steps<L>,
 ) -> Result<Tally, FaultKey>
     requires finished { IsFinished pairs.now }
-    requires reach { IsReachOf (field_of pairs.now) cell.now.sides reach.now }
+    requires reach { IsReachOf (field_of pairs.now.pairs) cell.now.sides reach.now }
     requires few { length atoms.old ≤ MAX_ATOMS }
     requires placed { All (IsPlaced pairs.now cell.now.sides) atoms.old }
-    ensures forces { OnOk result (atoms.new ≡ with_forces (field_of pairs.now) cell.now.sides atoms.old) }
-    ensures sums { IfOk result (λ t. t ≡ record { pair = pair_energy (field_of pairs.now) cell.now.sides atoms.old; bond = pos 0; angle = pos 0; virial = pair_virial (field_of pairs.now) cell.now.sides atoms.old }) }
-    ensures sound { OnOk result (forces_fault (field_of pairs.now) cell.now.sides atoms.old ≡ no_fault) }
+    ensures forces { OnOk result (atoms.new ≡ with_forces (field_of pairs.now.pairs) cell.now.sides atoms.old) }
+    ensures sums { IfOk result (λ t. t ≡ record { pair = pair_energy (field_of pairs.now.pairs) cell.now.sides atoms.old; bond = pos 0; angle = pos 0; virial = pair_virial (field_of pairs.now.pairs) cell.now.sides atoms.old }) }
+    ensures sound { OnOk result (forces_fault (field_of pairs.now.pairs) cell.now.sides atoms.old ≡ no_fault) }
     ensures range { OnOk result (All (λ a. IsWithin (2 ^ 44) a.f) atoms.new) }
-    ensures fault { IfErr result (IsKeyOf (forces_fault (field_of pairs.now) cell.now.sides atoms.old)) }
+    ensures fault { IfErr result (IsKeyOf (forces_fault (field_of pairs.now.pairs) cell.now.sides atoms.old)) }
     ensures length { length atoms.new ≡ length atoms.old }
     ensures steps { steps.new ≡ steps.old + length (half atoms.old) }
 {
@@ -76,13 +76,13 @@ fn add_rows<L: Ledger>(
     steps: &mut Steps<L>,
 ) -> Sums
     requires finished { IsFinished pairs.now }
-    requires reach { IsReachOf (field_of pairs.now) cell.now.sides reach.now }
+    requires reach { IsReachOf (field_of pairs.now.pairs) cell.now.sides reach.now }
     requires few { length atoms.old ≤ MAX_ATOMS }
     requires placed { All (IsPlaced pairs.now cell.now.sides) atoms.old }
-    ensures forces { atoms.new ≡ with_forces (field_of pairs.now) cell.now.sides atoms.old }
-    ensures energy { result.energy ≡ pair_energy (field_of pairs.now) cell.now.sides atoms.old }
-    ensures virial { result.virial ≡ pair_virial (field_of pairs.now) cell.now.sides atoms.old }
-    ensures fault { result.fault ≡ terms_fault (field_of pairs.now) cell.now.sides atoms.old }
+    ensures forces { atoms.new ≡ with_forces (field_of pairs.now.pairs) cell.now.sides atoms.old }
+    ensures energy { result.energy ≡ pair_energy (field_of pairs.now.pairs) cell.now.sides atoms.old }
+    ensures virial { result.virial ≡ pair_virial (field_of pairs.now.pairs) cell.now.sides atoms.old }
+    ensures fault { result.fault ≡ terms_fault (field_of pairs.now.pairs) cell.now.sides atoms.old }
     ensures steps { steps.new ≡ steps.old + length (half atoms.old) }
 {
     clear_forces(atoms);
@@ -116,13 +116,13 @@ fn add_first<L: Ledger>(
     steps: &mut Steps<L>,
 ) -> Row
     requires finished { IsFinished pairs.now }
-    requires reach { IsReachOf (field_of pairs.now) cell.now.sides reach.now }
+    requires reach { IsReachOf (field_of pairs.now.pairs) cell.now.sides reach.now }
     requires some { 0 < length atoms.old }
     requires few { length atoms.old ≤ MAX_ATOMS }
     requires placed { All (IsPlaced pairs.now cell.now.sides) atoms.old }
     requires mild { All (λ a. IsWithin (2 ^ 62 - 1) a.f) atoms.old }
-    ensures row { result ≡ first_row (field_of pairs.now) cell.now.sides atoms.old }
-    ensures atoms { atoms.new ≡ after_row (field_of pairs.now) cell.now.sides atoms.old }
+    ensures row { result ≡ first_row (field_of pairs.now.pairs) cell.now.sides atoms.old }
+    ensures atoms { atoms.new ≡ after_row (field_of pairs.now.pairs) cell.now.sides atoms.old }
     ensures bound { IsRowWithin MAX_ATOMS result }
     ensures steps { steps.new ≡ steps.old + (length atoms.old - 1) }
 {

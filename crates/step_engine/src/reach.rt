@@ -32,7 +32,7 @@ impl Reach {
     /// The reach of a force field in a box.
     pub(crate) fn new(field: &ForceField, cell: &SimBox) -> Reach
         requires { IsForceField field.now }
-        ensures { IsReachOf (field_of field.now.pairs) cell.now.sides result }
+        ensures { IsReachOf (field_of field.now.pairs.pairs) cell.now.sides result }
     {
         let cutoff = field.rcmax.unsigned_abs();
         Reach {

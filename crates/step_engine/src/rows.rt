@@ -44,13 +44,13 @@ pub(crate) fn add_row<L: Ledger>(
     steps: &mut Steps<L>,
 ) -> Row
     requires finished { IsFinished pairs.now }
-    requires reach { IsReachOf (field_of pairs.now) cell.now.sides reach.now }
+    requires reach { IsReachOf (field_of pairs.now.pairs) cell.now.sides reach.now }
     requires own { IsPlaced pairs.now cell.now.sides own.now }
     requires placed { All (IsPlaced pairs.now cell.now.sides) others.old }
     requires few { length others.old ≤ MAX_ATOMS }
     requires mild { All (λ a. IsWithin (2 ^ 62 - 1) a.f) others.old }
-    ensures row { result ≡ row_of (field_of pairs.now) cell.now.sides own.now others.old }
-    ensures others { others.new ≡ map (pushed_by (field_of pairs.now) cell.now.sides own.now) others.old }
+    ensures row { result ≡ row_of (field_of pairs.now.pairs) cell.now.sides own.now others.old }
+    ensures others { others.new ≡ map (pushed_by (field_of pairs.now.pairs) cell.now.sides own.now) others.old }
     ensures bound { IsRowWithin (length others.old) result }
     ensures steps { steps.new ≡ steps.old + length others.old }
 {
@@ -77,13 +77,13 @@ fn add_pair<L: Ledger>(
     steps: &mut Steps<L>,
 )
     requires finished { IsFinished pairs.now }
-    requires reach { IsReachOf (field_of pairs.now) cell.now.sides reach.now }
+    requires reach { IsReachOf (field_of pairs.now.pairs) cell.now.sides reach.now }
     requires own { IsPlaced pairs.now cell.now.sides own.now }
     requires other { IsPlaced pairs.now cell.now.sides other.old }
     requires mild { IsWithin (2 ^ 62 - 1) other.old.f }
     requires room { IsRowWithin (MAX_ATOMS - 1) row.old }
-    ensures other { other.new ≡ pushed_by (field_of pairs.now) cell.now.sides own.now other.old }
-    ensures row { row.new ≡ row_with own.now.id other.old.id (term_of (field_of pairs.now) cell.now.sides own.now other.old) row.old }
+    ensures other { other.new ≡ pushed_by (field_of pairs.now.pairs) cell.now.sides own.now other.old }
+    ensures row { row.new ≡ row_with own.now.id other.old.id (term_of (field_of pairs.now.pairs) cell.now.sides own.now other.old) row.old }
     ensures bound { (k : ℕ) → IsRowWithin k row.old → IsRowWithin (k + 1) row.new }
     ensures steps { steps.new ≡ steps.old + 1 }
 {
@@ -107,10 +107,10 @@ fn pair_term<L: Ledger>(
     steps: &mut Steps<L>,
 ) -> Result<Option<Term>, Close>
     requires finished { IsFinished pairs.now }
-    requires reach { IsReachOf (field_of pairs.now) cell.now.sides reach.now }
+    requires reach { IsReachOf (field_of pairs.now.pairs) cell.now.sides reach.now }
     requires own { IsPlaced pairs.now cell.now.sides own.now }
     requires other { IsPlaced pairs.now cell.now.sides other.now }
-    ensures is { result ≡ term_of (field_of pairs.now) cell.now.sides own.now other.now }
+    ensures is { result ≡ term_of (field_of pairs.now.pairs) cell.now.sides own.now other.now }
     ensures force { IfOk result (λ t. IfSome t HasModerateForce) }
     ensures energy { IfOk result (λ t. IfSome t HasModerateEnergy) }
     ensures virial { IfOk result (λ t. IfSome t HasModerateVirial) }

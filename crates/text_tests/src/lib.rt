@@ -4,8 +4,6 @@
 #[cfg(test)]
 mod commands;
 #[cfg(test)]
-mod data_files;
-#[cfg(test)]
 mod formulas;
 #[cfg(test)]
 mod lines;
@@ -13,7 +11,5 @@ mod lines;
 mod numbers;
 #[cfg(test)]
 mod quotients;
-#[cfg(test)]
-mod text_forms;
 #[cfg(test)]
 mod variables;

@@ -1,14 +1,15 @@
 //! Shelves and presses that fail: what was sent, and the status.
 use crate::setting::*;
-use fxlmp_top::Status;
+use fxlmp_top::{Code, Status};
 use outside::{Calls, Cut, Cuts, MemPress, MemShelf};
 use std::process::Abort;
 use std::test::Fail;
+use std::thread::Threads;
 
 /// Runs the two atoms at distance 2 over a shelf whose calls of `fail` fail and a press of these cuts.
 /// Gives the status, and the press with what it was sent.
 fn run_failing(
-    rt: &(impl Abort + AllocGlobal),
+    rt: &(impl Abort + AllocGlobal + Threads + Sync),
     fail: Calls,
     cuts: Cuts,
 ) -> Result<(Status, MemPress), Fail> {
@@ -18,7 +19,7 @@ fn run_failing(
     assert!(rt; files.has_distinct_names());
     let mut shelf = MemShelf::new(rt.alloc(), files, fail)?;
     let mut press = MemPress::new(rt.alloc(), cuts)?;
-    let status = run_over(rt.alloc(), WORDS, &mut shelf, &mut press)?;
+    let status = run_over(rt, WORDS, &mut shelf, &mut press)?;
     Ok((status, press))
 }
 
@@ -44,10 +45,39 @@ fn a_failing_shelf_ends_the_run_before_anything_is_sent(rt: HostRuntime) -> Resu
     Ok(())
 }
 
+/// Runs a script over a shelf whose second call fails, and asserts that it is refused with a code, at its last line.
+fn check_judged(
+    rt: &(impl Abort + AllocGlobal + Threads + Sync),
+    script: &str,
+    want: Code,
+) -> Result<(), Fail> {
+    let files = files_of(rt.alloc(), &[(SCRIPT_NAME, script)])?;
+    assert!(rt; files.has_distinct_names());
+    let fail = Calls::new(vec![in rt.alloc(); 1]?);
+    let mut shelf = MemShelf::new(rt.alloc(), files, fail)?;
+    let mut press = MemPress::new(rt.alloc(), Cuts::new(Vec::new(rt.alloc())))?;
+    let status = run_over(rt, WORDS, &mut shelf, &mut press)?;
+    match &status {
+        Status::ScriptRefused { code, .. } => assert_eq!(rt; *code, want),
+        _ => panic!(rt; "another status than that of a refused line"),
+    }
+    Ok(())
+}
+
+#[test]
+fn a_read_is_judged_before_its_file_is_fetched(rt: HostRuntime) -> Result<(), Fail> {
+    check_judged(&rt, "read_data log.lammps\n", Code::NameUse)?;
+    check_judged(
+        &rt,
+        "region b block 0 4 0 4 0 4\ncreate_box 1 b\nread_data data.x\n",
+        Code::BoxExists,
+    )
+}
+
 /// Runs over a press whose call with this number keeps so many bytes and fails. Gives the status, and
 /// the press with what it was sent.
 fn run_cut(
-    rt: &(impl Abort + AllocGlobal),
+    rt: &(impl Abort + AllocGlobal + Threads + Sync),
     call: u64,
     kept: u64,
 ) -> Result<(Status, MemPress), Fail> {

@@ -19,3 +19,5 @@ mod scripts;
 mod setting;
 #[cfg(test)]
 mod steps;
+#[cfg(test)]
+mod systems;

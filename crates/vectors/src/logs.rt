@@ -3,6 +3,7 @@ use crate::setting::*;
 use fxlmp_top::Status;
 use std::process::Abort;
 use std::test::Fail;
+use std::thread::Threads;
 
 #[test]
 fn two_atoms_write_header_line_and_footer(rt: HostRuntime) -> Result<(), Fail> {
@@ -73,7 +74,7 @@ fn no_atoms_have_no_energy(rt: HostRuntime) -> Result<(), Fail> {
 /// Asserts that the script over this data file is ended by two atoms of these ids, which are too close
 /// at step 0, and that the log is the line of that fault.
 fn check_close(
-    rt: &(impl Abort + AllocGlobal),
+    rt: &(impl Abort + AllocGlobal + Threads + Sync),
     data: &str,
     ids: (u32, u32),
     error: &[u8],

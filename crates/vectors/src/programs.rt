@@ -1,11 +1,14 @@
 //! The whole program over objects in memory: the number that it exits with, and what it says where.
 use crate::setting::*;
-use outside::{Cut, Cuts, MemPress, Press, SurePress, SureShelf};
+use disk_outside::SureDisk;
+use external_force::{Trap, trap_force};
+use outside::{Cut, Cuts, MemPress, OpenGate, Press, SurePress, SureShelf};
 use program::{Unread, read_words, run_program};
 use std::env::FillError;
 use std::process::{Abort, ExitCode};
 use std::rt::Env;
 use std::test::Fail;
+use std::thread::Threads;
 
 /// How the program is called, as it is said after a wrong command line.
 const USAGE: &str = "
@@ -17,8 +20,8 @@ usage: fxlmp -in FILE [-log FILE] [-screen none] [-var NAME VALUE ..]
 /// Runs the program over the script and data file of two atoms and a script for a later version, with
 /// these words or none, and this press. Gives the number that it exits with, and what it said on
 /// standard error.
-fn exit_over(
-    rt: &(impl Abort + AllocGlobal),
+fn exit_over<T: Abort + AllocGlobal + Threads + Sync>(
+    rt: &T,
     read: Result<&[&str], Unread>,
     press: &mut impl Press,
 ) -> Result<(ExitCode, Vec<u8>), Fail> {
@@ -28,7 +31,7 @@ fn exit_over(
         &[
             (SCRIPT_NAME, SCRIPT),
             (DATA_NAME, data.as_str()),
-            ("in.later", "units lj\nlattice fcc 0.8442\n"),
+            ("in.later", "units lj\nbond_style harmonic\n"),
         ],
     )?;
     assert!(rt; files.has_distinct_names());
@@ -38,7 +41,18 @@ fn exit_over(
         Ok(words) => Ok(texts_of(rt.alloc(), words)?),
         Err(why) => Err(why),
     };
-    let code = run_program(rt.alloc(), read, &mut shelf, press, &mut errors);
+    let mut disk = SureDisk;
+    let code = run_program::<_, _, _, _, _, _, Trap, _>(
+        rt,
+        rt.alloc(),
+        read,
+        &mut shelf,
+        press,
+        &mut disk,
+        &OpenGate,
+        trap_force,
+        &mut errors,
+    );
     Ok((code, errors))
 }
 
@@ -66,7 +80,10 @@ fn a_text_is_put_on_the_screen_with_no_run(rt: HostRuntime) -> Result<(), Fail> 
 }
 
 /// Asserts what comes of a text that is asked for where the screen takes five bytes of it.
-fn check_text_that_fails(rt: &(impl Abort + AllocGlobal), word: &str) -> Result<(), Fail> {
+fn check_text_that_fails(
+    rt: &(impl Abort + AllocGlobal + Threads + Sync),
+    word: &str,
+) -> Result<(), Fail> {
     let cut = Cut { call: 0, kept: 5 };
     let mut press = MemPress::new(rt.alloc(), Cuts::new(vec![in rt.alloc(); cut]?))?;
     let (code, errors) = exit_over(rt, Ok(&[word]), &mut press)?;
@@ -120,7 +137,7 @@ fn the_program_says_what_its_number_means(rt: HostRuntime) -> Result<(), Fail> {
         (
             Ok(&["-in", "in.later"]),
             9,
-            "fxlmp: in.later:2: this command, or the form of its data file, is for a later version (fxlmp --help shows what runs)\n",
+            "fxlmp: in.later:2: this command is for a later version (fxlmp --help shows what runs)\n",
             "",
         ),
     ];
@@ -181,7 +198,7 @@ fn words_are_read_as_the_system_gives_them(rt: HostRuntime) -> Result<(), Fail> 
 
 /// Asserts that the words that this system gives are read so.
 fn check_words(
-    rt: &(impl Abort + AllocGlobal),
+    rt: &(impl Abort + AllocGlobal + Threads + Sync),
     given: Given<'_>,
     want: Result<&[&'static [u8]], Unread>,
 ) -> Result<(), Fail> {

@@ -5,6 +5,7 @@ use outside::Piece;
 use std::alloc::Global;
 use std::process::Abort;
 use std::test::Fail;
+use std::thread::Threads;
 
 /// A text of so many letters.
 fn letters(alloc: Global, count: usize) -> Result<String, Fail> {
@@ -17,7 +18,11 @@ fn letters(alloc: Global, count: usize) -> Result<String, Fail> {
 
 /// Asserts that the words are answered as a wrong command line at this place, though the files that
 /// they may mean are there, and that nothing is sent.
-fn check_usage(rt: &(impl Abort + AllocGlobal), words: &[&str], place: u64) -> Result<(), Fail> {
+fn check_usage(
+    rt: &(impl Abort + AllocGlobal + Threads + Sync),
+    words: &[&str],
+    place: u64,
+) -> Result<(), Fail> {
     let files = [
         (SCRIPT_NAME, SCRIPT),
         ("in.two.gz", SCRIPT),
@@ -62,7 +67,7 @@ fn a_wrong_command_line_is_told_by_its_place(rt: HostRuntime) -> Result<(), Fail
 
 /// Asserts that the pieces are a log of the line of this refusal.
 fn check_refusal(
-    rt: &(impl Abort + AllocGlobal),
+    rt: &(impl Abort + AllocGlobal + Threads + Sync),
     pieces: &[Piece],
     code: Code,
     name: &str,
@@ -83,7 +88,7 @@ fn check_refusal(
 /// Asserts that the words over these files are refused with this code at this line of this file, and
 /// that the log is the line of the refusal.
 fn check_refused(
-    rt: &(impl Abort + AllocGlobal),
+    rt: &(impl Abort + AllocGlobal + Threads + Sync),
     words: &[&str],
     files: &[(&str, &str)],
     code: Code,
@@ -125,23 +130,6 @@ fn a_box_without_room_is_told_in_the_log(rt: HostRuntime) -> Result<(), Fail> {
     let data = data_file(rt.alloc(), "5.59999996", "1 1 1 5 5\n2 1 3 5 5\n")?;
     let files = [(SCRIPT_NAME, SCRIPT), (DATA_NAME, data.as_str())];
     check_refused(&rt, WORDS, &files, Code::EdgeTooSmall, SCRIPT_NAME, 6)
-}
-
-#[test]
-fn a_data_file_in_another_form_is_not_built(rt: HostRuntime) -> Result<(), Fail> {
-    let rows = [
-        ("no last line", "1 1 4 5 5\n"),
-        ("no last line feed", "1 1 4 5 5\n2 1 6 5 5"),
-        ("an atom outside the box", "1 1 4 5 5\n2 1 10 5 5\n"),
-        ("an id twice", "1 1 4 5 5\n1 1 6 5 5\n"),
-        ("a line too many", "1 1 4 5 5\n2 1 6 5 5\n3 1 8 5 5\n"),
-    ];
-    for (case, atoms) in rows {
-        let data = data_file(rt.alloc(), "10", atoms)?;
-        let status = check_log(&rt, SCRIPT, data.as_str(), &[], case)?;
-        check_later(&rt, &status, 3, case);
-    }
-    Ok(())
 }
 
 /// The script with so many zeros before its cutoff.

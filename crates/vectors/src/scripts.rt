@@ -4,10 +4,11 @@ use fxlmp_top::{Code, Status};
 use outside::SurePress;
 use std::process::Abort;
 use std::test::Fail;
+use std::thread::Threads;
 
 /// Runs a script alone, without other files, and these words behind those that name it.
 fn run_script(
-    rt: &(impl Abort + AllocGlobal),
+    rt: &(impl Abort + AllocGlobal + Threads + Sync),
     script: &str,
     words: &[&str],
 ) -> Result<(Status, SurePress), Fail> {
@@ -132,7 +133,7 @@ fn a_variable_of_the_command_line_goes_before_an_index(rt: HostRuntime) -> Resul
 
 /// Asserts that a script with these words behind it runs to its end and sends these pieces.
 fn check_sent(
-    rt: &(impl Abort + AllocGlobal),
+    rt: &(impl Abort + AllocGlobal + Threads + Sync),
     script: &str,
     words: &[&str],
     want: &[(&[u8], bool, &[u8])],
@@ -339,7 +340,7 @@ fn a_command_that_cannot_be_carried_out_is_told_by_its_code(rt: HostRuntime) -> 
 #[test]
 fn what_was_sent_before_a_later_command_stays(rt: HostRuntime) -> Result<(), Fail> {
     let rows = [
-        "print a\nlattice fcc 0.8442\nprint b\n",
+        "print a\nbond_style harmonic\nprint b\n",
         "print a\nvariable x equal 1\nprint b\n",
         "print a\nprint $(1+1)\nprint b\n",
     ];

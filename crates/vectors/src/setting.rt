@@ -1,14 +1,18 @@
 //! Scripts and data files of few atoms, the program run over a shelf and a press, and what it sends.
+ghost use Rattle.external_force.specs.Callbacks.{Keeps};
 ghost use Rattle.std.specs.Prelude.{◌≡◌, ◌<◌};
 
+use disk_outside::SureDisk;
+use external_force::{Callback, External, ExternalView, PullRule, Trap, trap_force};
 use fx_num::{NoMemory, Seq, Steps, Text};
 use fxlmp_top::{Code, Status, run_surely, run_words};
-use outside::{File, Files, Piece, Press, Shelf, SurePress, SureShelf};
+use outside::{File, Files, OpenGate, Piece, Press, Shelf, SurePress, SureShelf};
 use std::alloc::Global;
 use std::marker::Brand;
 use std::process::Abort;
 use std::sync::ledger::{Blank, Ledger};
 use std::test::Fail;
+use std::thread::Threads;
 
 /// The words of the command line for the script [`SCRIPT`].
 pub(crate) const WORDS: &[&str] = &["-in", "in.two"];
@@ -91,53 +95,87 @@ pub(crate) fn texts_of(alloc: Global, words: &[&str]) -> Result<Seq<Text>, NoMem
 }
 
 /// Runs the words over a shelf and a press, counting on this blank's ledger.
-fn run_counted<S: Shelf, P: Press, L: Ledger>(
+fn run_counted<
+    T: Threads + Sync,
+    S: Shelf,
+    P: Press,
+    F: Fn(&ExternalView) -> [i64; 3] + Callback,
+    R: PullRule,
+    L: Ledger,
+>(
+    rt: &T,
     alloc: Global,
     words: &[Text],
     shelf: &mut S,
     press: &mut P,
+    force: F,
     blank: Blank,
 ) -> Status
+    requires keeps { Keeps F.Callback.takes F.Callback.answers R.pull force }
     requires name { blank.name ≡ L.name }
     requires parts { blank.parts ≡ L.parts }
     requires some { 0 < blank.parts }
 {
     let mut steps = Steps::<L>::new(blank);
-    run_words(alloc, words, shelf, press, &mut steps)
+    let mut disk = SureDisk;
+    let external = External::<F, R>::new(force);
+    run_words(
+        rt, alloc, words, shelf, press, &mut disk, &OpenGate, &external, &mut steps,
+    )
 }
 
 /// Runs the words over a shelf and a press.
-pub(crate) fn run_over<S: Shelf, P: Press>(
-    alloc: Global,
+pub(crate) fn run_over<T: Threads + Sync + AllocGlobal, S: Shelf, P: Press>(
+    rt: &T,
     words: &[&str],
     shelf: &mut S,
     press: &mut P,
 ) -> Result<Status, NoMemory> {
-    let words = texts_of(alloc, words)?;
+    let words = texts_of(rt.alloc(), words)?;
     let words = words.as_slice();
-    Ok(run_counted::<S, P, Brand>(alloc, words, shelf, press, Blank::new(1)))
+    Ok(run_counted::<T, S, P, _, Trap, Brand>(
+        rt,
+        rt.alloc(),
+        words,
+        shelf,
+        press,
+        trap_force,
+        Blank::new(1),
+    ))
 }
 
 /// Runs the words over objects that never fail, counting on this blank's ledger.
-fn run_surely_counted<L: Ledger>(
+fn run_surely_counted<
+    T: Threads + Sync,
+    F: Fn(&ExternalView) -> [i64; 3] + Callback,
+    R: PullRule,
+    L: Ledger,
+>(
+    rt: &T,
     alloc: Global,
     words: &[Text],
     shelf: &mut SureShelf,
     press: &mut SurePress,
+    force: F,
     blank: Blank,
 ) -> Status
+    requires keeps { Keeps F.Callback.takes F.Callback.answers R.pull force }
     requires name { blank.name ≡ L.name }
     requires parts { blank.parts ≡ L.parts }
     requires some { 0 < blank.parts }
 {
     let mut steps = Steps::<L>::new(blank);
-    run_surely(alloc, words, shelf, press, &mut steps)
+    let mut disk = SureDisk;
+    let external = External::<F, R>::new(force);
+    run_surely(
+        rt, alloc, words, shelf, press, &mut disk, &OpenGate, &external, &mut steps,
+    )
 }
 
 /// Runs the words over files and a press that never fail. Gives the status, and the press with what
 /// it was sent.
-pub(crate) fn run_over_files(
-    rt: &(impl Abort + AllocGlobal),
+pub(crate) fn run_over_files<T: Abort + AllocGlobal + Threads + Sync>(
+    rt: &T,
     words: &[&str],
     named: &[(&str, &str)],
 ) -> Result<(Status, SurePress), NoMemory> {
@@ -147,11 +185,13 @@ pub(crate) fn run_over_files(
     let mut press = SurePress::new(rt.alloc())?;
     let words = texts_of(rt.alloc(), words)?;
     let words = words.as_slice();
-    let status = run_surely_counted::<Brand>(
+    let status = run_surely_counted::<T, _, Trap, Brand>(
+        rt,
         rt.alloc(),
         words,
         &mut shelf,
         &mut press,
+        trap_force,
         Blank::new(1),
     );
     Ok((status, press))
@@ -201,7 +241,7 @@ pub(crate) fn check_pieces(
 
 /// Asserts that the script over this data file writes a log of these texts. Gives the status.
 pub(crate) fn check_log(
-    rt: &(impl Abort + AllocGlobal),
+    rt: &(impl Abort + AllocGlobal + Threads + Sync),
     script: &str,
     data: &str,
     texts: &[&[u8]],

@@ -1,5 +1,5 @@
-use Rattle.pair_lj.proofs.PlaceLemmas.{pair_in-comm}
+use Rattle.pair_lj.proofs.SetLemmas.{numbers_at-comm}
 use Rattle.pair_lj.proofs.laws.pairs_have_no_order.Goals as goal
 
 pub returns : goal.returns
-returns c = λ t i j. pair_in-comm t.pairs.items i j
+returns c = numbers_at-comm

@@ -1,6 +1,6 @@
 use Rattle.std.proofs.Common.{rules, ◌≡◌, true, w64, FitsSigned}
 use Rattle.std.proofs.lemmas.Int.{to_z-of_z}
-use Rattle.meaning.specs.Pairs.{are_covered, with_cutoffs}
+use Rattle.pair_lj.specs.Pairs.{are_covered, with_cutoffs}
 use Rattle.run_settings.proofs.SoundLemmas.{style_sound}
 use Rattle.run_settings.proofs.pairs.set_pair_style.Goals as goal
 

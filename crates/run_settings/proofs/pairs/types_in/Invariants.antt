@@ -1,5 +1,5 @@
 use Rattle.std.proofs.Common.{◌≡◌, ◌-◌, ◌++◌}
-use Rattle.meaning.specs.Pairs.{types_from}
+use Rattle.pair_lj.specs.Pairs.{types_from}
 use Rattle.run_settings.proofs.pairs.types_in.Given as goal
 
 abbrev pub invariant-loop-kind : goal.invariant-loop-kind

@@ -17,7 +17,7 @@ returns-in-Err-run_engine-clause-does g c =
     let timestep : to_z w64 (of_z w64 s.setup.timestep) ≡ s.setup.timestep = passed s.setup.timestep c.requires.sound.setup.slow (omega (arith, ints, c.requires.sound.setup.quick)) in
     let fixes : c.in-Ok.fixes ≡ fixes_over b.atoms s.named.fixes = rw (c.as_slice.ensures, c.as_slice-2.ensures) at c.in-Ok.ensures in
     does_stopped c.in-Err-run_engine.why s b _ _ _ _ _ _ _ _
-    (makes_meant s b c.in-Ok-engine_of.engine c.in-Ok.fixes c.args.last _ _ _ _ _ _ _ _ timestep c.in-Ok-engine_of.ensures fixes c.requires.sound.body c.in-Err-run_engine.ensures.makes)
+    (makes_meant s b c.in-Ok-engine_of.engine c.in-Ok.fixes c.args.last _ _ _ _ _ _ _ _ timestep c.in-Ok-engine_of.ensures fixes c.in-Err-run_engine.ensures.makes)
     c.in-Err-run_engine.ensures.others
 
 pub returns-in-Err-run_engine-clause-counted : goal.returns-in-Err-run_engine-clause-counted
@@ -26,7 +26,7 @@ returns-in-Err-run_engine-clause-counted g c =
     let b = c.args.body in
     let timestep : to_z w64 (of_z w64 s.setup.timestep) ≡ s.setup.timestep = passed s.setup.timestep c.requires.sound.setup.slow (omega (arith, ints, c.requires.sound.setup.quick)) in
     let fixes : c.in-Ok.fixes ≡ fixes_over b.atoms s.named.fixes = rw (c.as_slice.ensures, c.as_slice-2.ensures) at c.in-Ok.ensures in
-    let made = makes_meant s b c.in-Ok-engine_of.engine c.in-Ok.fixes c.args.last _ _ _ _ _ _ _ _ timestep c.in-Ok-engine_of.ensures fixes c.requires.sound.body c.in-Err-run_engine.ensures.makes in
+    let made = makes_meant s b c.in-Ok-engine_of.engine c.in-Ok.fixes c.args.last _ _ _ _ _ _ _ _ timestep c.in-Ok-engine_of.ensures fixes c.in-Err-run_engine.ensures.makes in
     record { few = made.few; exact = tt }
 
 pub returns-clause-does : goal.returns-clause-does
@@ -36,7 +36,7 @@ returns-clause-does g c =
     let timestep : to_z w64 (of_z w64 s.setup.timestep) ≡ s.setup.timestep = passed s.setup.timestep c.requires.sound.setup.slow (omega (arith, ints, c.requires.sound.setup.quick)) in
     let fixes : c.in-Ok.fixes ≡ fixes_over b.atoms s.named.fixes = rw (c.as_slice.ensures, c.as_slice-2.ensures) at c.in-Ok.ensures in
     does_done s b _ _ _ _ _ _ _ _
-    (makes_meant s b c.in-Ok-engine_of.engine c.in-Ok.fixes c.args.last _ _ _ _ _ _ _ _ timestep c.in-Ok-engine_of.ensures fixes c.requires.sound.body c.in-Ok-run_engine.ensures.makes)
+    (makes_meant s b c.in-Ok-engine_of.engine c.in-Ok.fixes c.args.last _ _ _ _ _ _ _ _ timestep c.in-Ok-engine_of.ensures fixes c.in-Ok-run_engine.ensures.makes)
     (settings_after s b c.body_of.result c.in-Ok-engine_of.engine c.run_engine.new.engine c.run_engine.new.output _ _ c.in-Ok-engine_of.ensures c.in-Ok-run_engine.ensures.rules c.body_of.ensures c.in-Ok-run_engine.ensures.others)
 
 pub returns-clause-counted : goal.returns-clause-counted
@@ -45,7 +45,7 @@ returns-clause-counted g c =
     let b = c.args.body in
     let timestep : to_z w64 (of_z w64 s.setup.timestep) ≡ s.setup.timestep = passed s.setup.timestep c.requires.sound.setup.slow (omega (arith, ints, c.requires.sound.setup.quick)) in
     let fixes : c.in-Ok.fixes ≡ fixes_over b.atoms s.named.fixes = rw (c.as_slice.ensures, c.as_slice-2.ensures) at c.in-Ok.ensures in
-    let made = makes_meant s b c.in-Ok-engine_of.engine c.in-Ok.fixes c.args.last _ _ _ _ _ _ _ _ timestep c.in-Ok-engine_of.ensures fixes c.requires.sound.body c.in-Ok-run_engine.ensures.makes in
+    let made = makes_meant s b c.in-Ok-engine_of.engine c.in-Ok.fixes c.args.last _ _ _ _ _ _ _ _ timestep c.in-Ok-engine_of.ensures fixes c.in-Ok-run_engine.ensures.makes in
     record { few = made.few; exact = made.exact }
 
 pub returns-clause-sound : goal.returns-clause-sound
@@ -54,7 +54,7 @@ returns-clause-sound g c =
     let b = c.args.body in
     let timestep : to_z w64 (of_z w64 s.setup.timestep) ≡ s.setup.timestep = passed s.setup.timestep c.requires.sound.setup.slow (omega (arith, ints, c.requires.sound.setup.quick)) in
     let fixes : c.in-Ok.fixes ≡ fixes_over b.atoms s.named.fixes = rw (c.as_slice.ensures, c.as_slice-2.ensures) at c.in-Ok.ensures in
-    let made = makes_meant s b c.in-Ok-engine_of.engine c.in-Ok.fixes c.args.last _ _ _ _ _ _ _ _ timestep c.in-Ok-engine_of.ensures fixes c.requires.sound.body c.in-Ok-run_engine.ensures.makes in
+    let made = makes_meant s b c.in-Ok-engine_of.engine c.in-Ok.fixes c.args.last _ _ _ _ _ _ _ _ timestep c.in-Ok-engine_of.ensures fixes c.in-Ok-run_engine.ensures.makes in
     let now = c.run_engine.new.engine in
     record {
       setup = c.requires.sound.setup;

@@ -35,7 +35,7 @@ loop-step-preserved g c =
       others = others_stand n.output c.loop-step.output c.args.output.now c.in-Ok.ensures.others i.others;
       leads = loop_on _ _ _ _ _ _ _ (setting_of c.args.engine.now.rules c.args.fixes.now) u c.args.output.now c.loop-step.output c.args.last c.loop-step.step c.loop-step.engine.state n.engine.state _
           c.loop-step-test.true (ap (λ (w : World). setting_of w.rules c.args.fixes.now) i.engine) i.others i.leads c.in-Ok.ensures.begins (state_next n.engine c.loop-step.engine u c.in-Ok.ensures.state);
-      stays = c.in-Ok.ensures.stays.1 ∙ i.stays;
+      stays = c.in-Ok.ensures.stays.1.0 ∙ i.stays;
     }
 
 pub returns-in-Ok-show_footer-clause-makes : goal.returns-in-Ok-show_footer-clause-makes

@@ -11,6 +11,6 @@ invariant-loop-step g l = record {
   state : IsState l.engine.rules l.engine.state;
   number : l.step ≡ l.engine.state.step;
   others : l.output ≡ record l.initial.output { uses = l.output.uses };
-  leads : Leads (run_from (setting_of l.initial.engine.rules l.fixes) l.initial.output l.last (l.last - l.first) l.initial.engine.state l.initial.output.uses) (g.P.Press.sent l.initial.press) (g.P.Press.sent l.press) l.initial.steps l.steps (run_from (setting_of l.initial.engine.rules l.fixes) l.initial.output l.last (l.last - l.step) l.engine.state l.output.uses);
-  stays : g.P.Press.faults l.press ≡ g.P.Press.faults l.initial.press;
+  leads : Leads (run_from (setting_of l.initial.engine.rules l.fixes) l.initial.output l.last (l.last - l.first) l.initial.engine.state l.initial.output.uses) (g.P.Press.seen l.initial.press).sent (g.P.Press.seen l.press).sent l.initial.steps l.steps (run_from (setting_of l.initial.engine.rules l.fixes) l.initial.output l.last (l.last - l.step) l.engine.state l.output.uses);
+  stays : (g.P.Press.seen l.press).faults ≡ (g.P.Press.seen l.initial.press).faults;
 }

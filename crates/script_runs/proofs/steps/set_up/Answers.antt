@@ -17,7 +17,7 @@ returns-in-Err-clause-begins g c =
     let n : Outcome = set_up t w.state.step w.state.atoms in
     let key : IsKeyOf n.fault c.in-Err.key = rw (set_up_fault w.rules c.args.fixes.now w.state.step w.state.atoms) c.in-Err.ensures.fault in
     rw c.step-number.ensures
-    (part_fails (set_up_part t o w.state.step w.state.atoms o.uses) (length (half w.state.atoms)) n.state c.in-Err.key w.state.step (g.P.Press.sent c.args.press.now) c.args.steps.now c.forces.new.steps o.uses
+    (part_fails (set_up_part t o w.state.step w.state.atoms o.uses) (length (half w.state.atoms)) n.state c.in-Err.key w.state.step (g.P.Press.seen c.args.press.now).sent c.args.steps.now c.forces.new.steps o.uses
     (set_up_fails t o w.state.step w.state.atoms o.uses c.in-Err.key key (set_up_number t w.state.step w.state.atoms))
     (omega (arith, c.forces.ensures.steps)))
 

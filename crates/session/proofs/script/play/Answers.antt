@@ -11,18 +11,19 @@ use Rattle.session.proofs.script.play.Goals as goal
 pub loop-line-init : goal.loop-line-init
 loop-line-init g c =
     record {
-      ahead = λ files told. ahead_start files c.args.file.now c.args.text.now c.args.settings c.start-place.result (g.P.Press.sent c.args.press.now) c.args.steps.now c.start-place.ensures;
+      ahead = λ files told. ahead_start files c.args.file.now c.args.text.now c.args.settings c.start-place.result (g.P.Press.seen c.args.press.now).sent c.args.steps.now c.start-place.ensures;
       sound = c.requires.sound;
       counted = search rules;
       kept = search rules;
       reads = refl;
       writes = refl;
+      saves = refl;
     }
 
 pub returns-in-Ok-None-clause-ends : goal.returns-in-Ok-None-clause-ends
 returns-in-Ok-None-clause-ends g c =
-    λ files told. ahead_ends status.Done (g.P.Press.sent c.loop-line.press) (c.loop-line.invariant.ahead files told)
-    (none_ends files c.args.file.now c.args.text.now (script_at c.args.text.now c.loop-line.place.at) c.loop-line.settings c.in-Ok-None.field-0 (g.P.Press.sent c.loop-line.press) c.in-Ok-None.field-0-is (subst (λ (t : List ℕ). IsNextLine t c.in-Ok-None.field-0 (script_at t c.loop-line.place.at)) c.as_bytes.ensures c.in-Ok-None.ensures.line))
+    λ files told. ahead_ends status.Done (g.P.Press.seen c.loop-line.press).sent (c.loop-line.invariant.ahead files told)
+    (none_ends files c.args.file.now c.args.text.now (script_at c.args.text.now c.loop-line.place.at) c.loop-line.settings c.in-Ok-None.field-0 (g.P.Press.seen c.loop-line.press).sent c.in-Ok-None.field-0-is (subst (λ (t : List ℕ). IsNextLine t c.in-Ok-None.field-0 (script_at t c.loop-line.place.at)) c.as_bytes.ensures c.in-Ok-None.ensures.line))
 
 pub returns-in-Ok-None-clause-counted : goal.returns-in-Ok-None-clause-counted
 returns-in-Ok-None-clause-counted g c =
@@ -36,7 +37,7 @@ returns-in-Err-clause-ends g c =
 
 pub returns-in-Ok-Quit-clause-ends : goal.returns-in-Ok-Quit-clause-ends
 returns-in-Ok-Quit-clause-ends g c =
-    λ files told. ahead_ends status.Done (g.P.Press.sent c.run_line.new.press)
+    λ files told. ahead_ends status.Done (g.P.Press.seen c.run_line.new.press).sent
     (line_ahead files c.args.file.now c.args.text.now c.loop-line.settings c.in-Ok-Some.field-0 c.in-Ok-Some.line (script_at c.args.text.now c.loop-line.place.at) c.in-Ok-Some.field-0-is (subst (λ (t : List ℕ). IsNextLine t c.in-Ok-Some.field-0 (script_at t c.loop-line.place.at)) c.as_bytes.ensures c.in-Ok-Some.ensures.line) (c.loop-line.invariant.ahead files told))
     (quit_ends (line_outcome files c.loop-line.settings c.in-Ok-Some.line.words) c.args.file.now c.in-Ok-Some.line.number (λ t. played files c.args.file.now (script_at c.args.text.now c.in-Ok-Some.line.next.at) t) _
     (((c.in-Ok-Quit.ensures.does files (c.loop-line.invariant.kept.stock ∙ told)).goes_on) ∙ ap way_of c.in-Ok-Quit.field-0-is)
@@ -79,4 +80,5 @@ loop-line-preserved g c =
       kept = search rules;
       reads = search rules;
       writes = search rules;
+      saves = search rules;
     }

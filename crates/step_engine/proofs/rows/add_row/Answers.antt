@@ -7,7 +7,7 @@ use Rattle.step_engine.proofs.rows.add_row.Goals as goal
 
 pub loop-other-init : goal.loop-other-init
 loop-other-init g c = record {
-  row = row_none (field_of c.args.pairs.now) c.args.cell.now.sides c.args.own.now;
+  row = row_none (field_of c.args.pairs.now.pairs) c.args.cell.now.sides c.args.own.now;
   others = refl;
   bound = row_none-within;
   steps = omega arith;
@@ -15,17 +15,17 @@ loop-other-init g c = record {
 
 pub add_pair-requires-clause-other : goal.add_pair-requires-clause-other
 add_pair-requires-clause-other g c =
-    at_untouched (IsPlaced c.args.pairs.now c.args.cell.now.sides) (pushed_by (field_of c.args.pairs.now) c.args.cell.now.sides c.args.own.now) c.args.others.now c.loop-other.others c.loop-other.other-index _
+    at_untouched (IsPlaced c.args.pairs.now c.args.cell.now.sides) (pushed_by (field_of c.args.pairs.now.pairs) c.args.cell.now.sides c.args.own.now) c.args.others.now c.loop-other.others c.loop-other.other-index _
     (omega arith) c.loop-other.invariant.others c.requires.placed
 
 pub add_pair-requires-clause-mild : goal.add_pair-requires-clause-mild
 add_pair-requires-clause-mild g c =
-    at_untouched (λ a. IsWithin (2 ^ 62 - 1) a.f) (pushed_by (field_of c.args.pairs.now) c.args.cell.now.sides c.args.own.now) c.args.others.now c.loop-other.others c.loop-other.other-index _
+    at_untouched (λ a. IsWithin (2 ^ 62 - 1) a.f) (pushed_by (field_of c.args.pairs.now.pairs) c.args.cell.now.sides c.args.own.now) c.args.others.now c.loop-other.others c.loop-other.other-index _
     (omega arith) c.loop-other.invariant.others c.requires.mild
 
 pub loop-other-preserved : goal.loop-other-preserved
 loop-other-preserved g c =
-    let field = field_of c.args.pairs.now in
+    let field = field_of c.args.pairs.now.pairs in
     let s = c.args.cell.now.sides in
     let own = c.args.own.now in
     let xs = c.args.others.now in

@@ -1,4 +1,0 @@
-pub mod LineLemmas
-pub mod ReaderLemmas
-pub mod FormLemmas
-pub mod WrittenLemmas

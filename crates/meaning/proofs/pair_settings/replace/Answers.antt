@@ -1,6 +1,0 @@
-use Rattle.meaning.specs.Pairs.{replaced}
-use Rattle.meaning.proofs.Mapped.{mapped_more}
-use Rattle.meaning.proofs.pair_settings.replace.Goals as goal
-
-pub loop-i-preserved : goal.loop-i-preserved
-loop-i-preserved c = mapped_more (replaced c.args.pair.now) c.args.pairs.now c.loop-i.pairs c.loop-i.i _ _ c.loop-i-test.true c.loop-i.invariant c.replaced.ensures

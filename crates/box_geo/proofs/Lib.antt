@@ -1,4 +1,5 @@
 pub mod FaultLemmas
+pub mod IdLemmas
 pub mod NearLemmas
 mod Worked
 pub mod WrapLemmas

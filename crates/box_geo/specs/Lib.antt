@@ -1,4 +1,6 @@
 pub mod Fault
+pub mod Ids
 pub mod Limits
 pub mod Sides
+pub mod Terms
 pub mod Wrap

@@ -40,6 +40,10 @@ y_of v = slice_index_or v 1 (pos 0)
 abbrev pub z_of : List ℤ → ℤ
 z_of v = slice_index_or v 2 (pos 0)
 
+-- each component of a vector is of magnitude at most a bound
+abbrev pub IsWithin : ℕ → List ℤ → Type 0
+IsWithin bound v = (unsigned_abs (x_of v) ≤ bound) × (unsigned_abs (y_of v) ≤ bound) × (unsigned_abs (z_of v) ≤ bound)
+
 -- the sides of these bounds
 abbrev pub sides_of : List ℤ → List ℤ → List Bool → ℕ → Sides
 sides_of lo hi periodic dim = record {

@@ -2,7 +2,7 @@
 use Rattle.std.specs.Prelude.{◌==◌, ◌&&◌, ◌+◌, ◌*◌, ◌%◌, Bool, cond, ℕ, ℤ, neg_ℤ, nat_le, option_and_then, Option, Some, Result, Ok, Err, List, [], ◌∷◌, length, drop, map, take}
 use Rattle.std.specs.List.{prefix_len}
 use Rattle.box_geo.specs.declared.limits.TheConstants.{MAX_FORCE, MAX_STEP}
-use Rattle.command_words.specs.Names.{is_compute}
+use Rattle.names.specs.Names.{is_compute}
 use Rattle.command_words.specs.Values.{number, number_or, then, value_place, whole, word}
 use Rattle.command_words.specs.declared.fixes.FixStyle.{FixStyle}
 use Rattle.command_words.specs.declared.fixes.FixStyle.TheVariants as style

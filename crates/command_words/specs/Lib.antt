@@ -8,7 +8,6 @@ pub mod Forms
 pub mod Lattice
 pub mod Limits
 pub mod MassesGroups
-pub mod Names
 pub mod Neighbors
 pub mod Options
 pub mod Output

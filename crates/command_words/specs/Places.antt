@@ -6,7 +6,7 @@ use Rattle.fx_num.specs.Decimal.{read_count, read_number}
 use Rattle.fx_num.specs.declared.decimal.NumError.{NumError}
 use Rattle.fx_num.specs.declared.decimal.NumError.TheVariants.{NotNumber, TooManyDigits, OutOfRange}
 use Rattle.command_words.specs.Branches.{stuck_branches}
-use Rattle.command_words.specs.Names.{is_compute, is_file_name, is_id}
+use Rattle.names.specs.Names.{is_compute, is_file_name, is_id}
 use Rattle.command_words.specs.Options.{choices_in, kind_of_option}
 use Rattle.command_words.specs.Ranges.{is_count, is_id_range, is_kind_range}
 use Rattle.command_words.specs.Vocabulary.{is_among, text_of}

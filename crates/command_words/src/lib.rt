@@ -14,7 +14,6 @@ mod lattice;
 mod laws;
 mod limits;
 mod masses_groups;
-mod names;
 mod neighbors;
 mod options;
 mod output;

@@ -5,11 +5,11 @@ ghost use Rattle.command_words.specs.Options.{choices_in};
 ghost use Rattle.command_words.specs.Places.{count_of, has_count, is_number, left_by, left_by_count, none_left, stuck, stuck_options, takes};
 
 use crate::branches::stuck_branches;
-use crate::names::{is_compute, is_file_name, is_id};
 use crate::options::{Choice, Options, choices_in, kind_of_option};
 use crate::ranges::{is_count, is_id_range, is_kind_range};
 use crate::vocabulary::{Word, Words, is_among, text_of};
 use fx_num::{NumError, Text, read_decimal, read_whole};
+use names::{is_compute, is_file_name, is_id};
 
 /// What one word may be.
 #[derive(Clone, Copy)]

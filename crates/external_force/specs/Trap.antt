@@ -2,9 +2,8 @@
 use Rattle.std.proofs.Common.{◌≤◌, ℤ, neg_ℤ, unsigned_abs, List, [], ◌∷◌, arith}
 use Rattle.std.proofs.lemmas.Int.{ints}
 use Rattle.box_geo.specs.declared.limits.TheConstants.{MAX_BOUND}
-use Rattle.box_geo.specs.Sides.{x_of, y_of, z_of}
+use Rattle.box_geo.specs.Sides.{x_of, y_of, z_of, IsWithin}
 use Rattle.external_force.specs.declared.rule.TheConstants.{MAX_PULL}
-use Rattle.external_force.specs.Views.{IsWithin}
 
 -- the force of the trap at a position: back to the origin, as strong as the position is far from it
 abbrev pub back : List ℤ → List ℤ

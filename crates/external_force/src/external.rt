@@ -2,7 +2,8 @@
 ghost use Rattle.std.specs.Prelude.{◌≡◌, unsigned_abs};
 ghost use Rattle.external_force.specs.declared.rule.TheConstants.{MAX_PULL};
 ghost use Rattle.external_force.specs.Callbacks.{Keeps};
-ghost use Rattle.external_force.specs.Views.{IsNear, IsWithin};
+ghost use Rattle.box_geo.specs.Sides.{IsWithin};
+ghost use Rattle.external_force.specs.Views.{IsNear};
 
 use crate::callback::Callback;
 use crate::rule::PullRule;

@@ -9,7 +9,8 @@ pub trait PullRule: Sync {
     ghost use Rattle.std.specs.Prelude.{◌≡◌, ℕ, ℤ, List, length, unsigned_abs};
     ghost use Rattle.external_force.specs.declared.rule.TheConstants.{MAX_PULL};
     ghost use Rattle.external_force.specs.declared.view.ExternalView.{ExternalView};
-    ghost use Rattle.external_force.specs.Views.{IsNear, IsWithin};
+    ghost use Rattle.box_geo.specs.Sides.{IsWithin};
+    ghost use Rattle.external_force.specs.Views.{IsNear};
 
     /// The force on an atom of this id and type at this position.
     ghost pull: { ℕ → ℕ → List ℤ → List ℤ };

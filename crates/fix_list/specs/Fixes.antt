@@ -2,6 +2,7 @@
 use Rattle.std.specs.Prelude.{◌+◌, ◌==◌, ◌<◌, length, slice_index, Bool, cond, not, ℕ, List, [], ◌∷◌}
 use Rattle.std.specs.List.{All, filter, list_any}
 use Rattle.std.specs.Str.{bytes_eq}
+use Rattle.box_geo.specs.Ids.{Rises}
 use Rattle.fix_list.specs.declared.fixes.Fix.{Fix}
 use Rattle.fix_list.specs.declared.fixes.Fix.TheVariants.{Nve}
 use Rattle.fix_list.specs.declared.fixes.NamedFix.{NamedFix}
@@ -10,11 +11,7 @@ use Rattle.fix_list.specs.declared.fixes.NamedFix.{NamedFix}
 abbrev pub ids_of : Fix → List ℕ
 ids_of (Nve ids) = ids
 
--- ids stand in strictly rising order
-abbrev pub Rises : List ℕ → Type 0
-Rises ids = (i j : ℕ) → i < j → j < length ids → slice_index ids i < slice_index ids j
-
--- so do the ids of each fix of the list
+-- the ids of each fix of the list stand in strictly rising order
 abbrev pub AllRise : List NamedFix → Type 0
 AllRise fixes = All (λ named. Rises (ids_of named.fix)) fixes
 

@@ -1,6 +1,7 @@
 //! A fix, and the list of a run's fixes under their names.
 ghost use Rattle.std.specs.Prelude.{◌≡◌, ◌≤◌, ◌↔◌, ◌++◌, [], ◌∷◌, ℕ, true, false, IfSome, IsSomeAnd, IsOkAnd, OnOk, OnErr};
-ghost use Rattle.fix_list.specs.Fixes.{fix_moves, has_name, moves, movers, without, ids_of, AllRise, Rises};
+ghost use Rattle.box_geo.specs.Ids.{Rises};
+ghost use Rattle.fix_list.specs.Fixes.{fix_moves, has_name, moves, movers, without, ids_of, AllRise};
 ghost use Rattle.fix_list.specs.Least.{least_among};
 
 use box_geo::Ids;

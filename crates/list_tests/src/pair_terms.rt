@@ -1,7 +1,7 @@
 //! A table of pair coefficients from its first number to its terms, whole and by halves, against numbers worked by hand;
 //! and how many guesses of a list of pairs are wrong.
 ghost use Rattle.std.specs.Prelude.{◌≡◌, ◌^◌, ◌<◌, ◌≤◌, pos, ◌<ℤ◌, ◌≤ℤ◌, unsigned_abs, IfOk};
-ghost use Rattle.pair_lj.specs.PairTerm.{IsDisplacement};
+ghost use Rattle.box_geo.specs.Terms.{IsDisplacement};
 ghost use Rattle.pair_lj.specs.Table.{IsFinished};
 
 use box_geo::Term;

@@ -1,7 +1,7 @@
 //! Ids.
 ghost use Rattle.std.specs.Prelude.{◌≡◌};
 ghost use Rattle.std.specs.List.{list_all};
-ghost use Rattle.names.specs.Names.{is_id, is_id_byte};
+ghost use Rattle.names.specs.Names.{is_compute, is_id, is_id_byte};
 
 use box_geo::limits::MAX_NAME_BYTES;
 
@@ -24,4 +24,14 @@ pub fn is_id(name: &[u8]) -> bool
     ensures { result ≡ is_id name.now }
 {
     1 <= name.len() && name.len() <= MAX_NAME_BYTES && has_id_bytes(name)
+}
+
+/// Whether this is `c_` and an id, as formulas and columns name a compute.
+pub fn is_compute(name: &[u8]) -> bool
+    ensures { result ≡ is_compute name.now }
+{
+    match name {
+        [b'c', b'_', id @ ..] => is_id(id),
+        _ => false,
+    }
 }

@@ -5,4 +5,4 @@ mod files;
 mod ids;
 
 pub use files::{is_compressed, is_file_name};
-pub use ids::is_id;
+pub use ids::{is_compute, is_id};

@@ -7,7 +7,8 @@ use Rattle.fx_num.specs.Rounding.{nearest_of, with_sign, div_rounded, shr_rounde
 use Rattle.fx_num.proofs.RoundingLemmas.{nearest_rounds}
 use Rattle.box_geo.specs.declared.term.Term.{Term}
 use Rattle.box_geo.specs.Sides.{length2}
-use Rattle.pair_lj.specs.PairTerm.{inverse_square, sixth_power, twelfth_power, strength, energy_at, force_along, dot, is_too_near, is_too_strong, weighted_term, pair_term}
+use Rattle.box_geo.specs.Terms.{dot, is_too_strong}
+use Rattle.pair_lj.specs.PairTerm.{inverse_square, sixth_power, twelfth_power, strength, energy_at, force_along, is_too_near, weighted_term, pair_term}
 use Rattle.pair_lj.proofs.SignLemmas.{unsigned_abs-product, weighted_is}
 
 pub far : (eps sigma cut : ℕ) (base : ℤ) (weight : ℕ) (d : List ℤ) → cut * cut ≤ length2 d → pair_term eps sigma cut base weight d ≡ Ok None

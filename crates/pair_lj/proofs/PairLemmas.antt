@@ -7,9 +7,10 @@ use Rattle.std.proofs.lemmas.Bool.Decides.{nat_tests}
 use Rattle.fx_num.specs.Rounding.{nearest_of, shr_rounded}
 use Rattle.fx_num.proofs.RoundingLemmas.{neg_ℤ-*ℤ, div_rounded-neg, unsigned_abs-div_rounded, nearest_of-mul, nearest_of-le}
 use Rattle.box_geo.specs.declared.term.Term.{Term}
-use Rattle.box_geo.specs.Sides.{x_of, y_of, z_of, length2}
+use Rattle.box_geo.specs.Sides.{x_of, y_of, z_of, length2, IsOpposite}
 use Rattle.pair_lj.specs.declared.close.Close.{Close}
-use Rattle.pair_lj.specs.PairTerm.{strength, energy_at, force_along, dot, is_too_near, is_too_strong, weighted_term, pair_term, IsModerate, HasModerateForce, IsOpposite, AreOpposite}
+use Rattle.box_geo.specs.Terms.{dot, is_too_strong, IsModerate}
+use Rattle.pair_lj.specs.PairTerm.{strength, energy_at, force_along, is_too_near, weighted_term, pair_term, HasModerateForce, AreOpposite}
 use Rattle.pair_lj.proofs.SignLemmas.{weighted_is}
 use Rattle.pair_lj.proofs.Cases.{nearest_of-mono}
 

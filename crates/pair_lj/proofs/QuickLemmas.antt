@@ -7,7 +7,8 @@ use Rattle.fx_num.proofs.RoundingLemmas.{rounded_is}
 use Rattle.box_geo.specs.declared.term.Term.{Term}
 use Rattle.box_geo.specs.Sides.{length2}
 use Rattle.pair_lj.specs.declared.close.Close.{Close}
-use Rattle.pair_lj.specs.PairTerm.{inverse_square, sixth_power, twelfth_power, strength, energy_at, force_along, dot, is_too_near, weighted_term, pair_term}
+use Rattle.box_geo.specs.Terms.{dot}
+use Rattle.pair_lj.specs.PairTerm.{inverse_square, sixth_power, twelfth_power, strength, energy_at, force_along, is_too_near, weighted_term, pair_term}
 use Rattle.pair_lj.proofs.SignLemmas.{strength_is}
 use Rattle.pair_lj.proofs.Cases.{moderate, near_false, read_ratio, read_sixth, read_twelfth, read_strength, strong_false, same_term}
 use Rattle.pair_lj.proofs.PairLemmas.{weighted_term-whole}

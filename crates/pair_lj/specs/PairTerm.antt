@@ -9,12 +9,9 @@
 use Rattle.std.specs.Prelude.{◌≡◌, ◌*◌, ◌^◌, ◌<◌, ◌≤◌, ◌==◌, ◌||◌, Bool, cond, nat_lt, nat_le, ℕ, ℤ, pos, neg_ℤ, ◌+ℤ◌, ◌-ℤ◌, ◌*ℤ◌, unsigned_abs, Option, Some, None, Result, Ok, Err, List, [], ◌∷◌}
 use Rattle.fx_num.specs.Rounding.{nearest_of, div_rounded, shr_rounded}
 use Rattle.box_geo.specs.declared.term.Term.{Term}
-use Rattle.box_geo.specs.Sides.{x_of, y_of, z_of, length2}
+use Rattle.box_geo.specs.Sides.{length2, x_of, y_of, z_of, IsOpposite}
+use Rattle.box_geo.specs.Terms.{dot, is_too_strong, IsModerate}
 use Rattle.pair_lj.specs.declared.close.Close.{Close}
-
--- a displacement with components of magnitudes below 2^34
-abbrev pub IsDisplacement : List ℤ → Type 0
-IsDisplacement d = (unsigned_abs (x_of d) < 2 ^ 34) × (unsigned_abs (y_of d) < 2 ^ 34) × (unsigned_abs (z_of d) < 2 ^ 34)
 
 -- w: the square of sigma over that of the distance
 unfoldable pub inverse_square : ℕ → ℕ → ℕ
@@ -45,22 +42,11 @@ energy_at eps sigma r2 =
 unfoldable pub force_along : ℤ → List ℤ → List ℤ
 force_along c d = shr_rounded (c *ℤ x_of d) 32 ∷ shr_rounded (c *ℤ y_of d) 32 ∷ shr_rounded (c *ℤ z_of d) 32 ∷ []
 
--- the product of two vectors
-abbrev pub dot : List ℤ → List ℤ → ℤ
-dot a b = x_of a *ℤ x_of b +ℤ y_of a *ℤ y_of b +ℤ z_of a *ℤ z_of b
-
 -- two atoms at one place, or with w above 16
 abbrev pub is_too_near : ℕ → ℕ → Bool
 is_too_near sigma r2 = (r2 == 0) || nat_lt (2 ^ 36) (inverse_square sigma r2)
 
--- a force with a component of a magnitude above 2^42
-abbrev pub is_too_strong : List ℤ → Bool
-is_too_strong f = nat_lt (2 ^ 42) (unsigned_abs (x_of f)) || nat_lt (2 ^ 42) (unsigned_abs (y_of f)) || nat_lt (2 ^ 42) (unsigned_abs (z_of f))
-
--- a force whose components are of magnitudes up to 2^42
-abbrev pub IsModerate : List ℤ → Type 0
-IsModerate f = (unsigned_abs (x_of f) ≤ 2 ^ 42) × (unsigned_abs (y_of f) ≤ 2 ^ 42) × (unsigned_abs (z_of f) ≤ 2 ^ 42)
-
+-- a term whose force, energy and virial are within their ranges
 abbrev pub HasModerateForce : Term → Type 0
 HasModerateForce t = IsModerate t.f
 
@@ -84,10 +70,6 @@ pair_term eps sigma cut base weight d =
     (cond (is_too_near sigma (length2 d)) (Err record {})
     (cond (is_too_strong (force_along (strength eps sigma (length2 d)) d)) (Err record {})
     (Ok (Some (weighted_term (strength eps sigma (length2 d)) (energy_at eps sigma (length2 d) -ℤ base) weight d)))))
-
--- one vector is the negative of the other
-abbrev pub IsOpposite : List ℤ → List ℤ → Type 0
-IsOpposite d e = (x_of e ≡ neg_ℤ (x_of d)) × (y_of e ≡ neg_ℤ (y_of d)) × (z_of e ≡ neg_ℤ (z_of d))
 
 -- the outcomes are of one kind; of two terms the forces are opposite, the energies and virials equal
 abbrev pub AreOpposite : Result (Option Term) Close → Result (Option Term) Close → Type 0

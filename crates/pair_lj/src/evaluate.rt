@@ -1,7 +1,8 @@
 //! The pair term at a displacement, in two halves: a guess of its quotients, and the term with the guess checked.
 ghost use Rattle.std.specs.Prelude.{◌≡◌, ◌+◌, ◌*◌, ◌^◌, ◌<◌, ◌≤◌, ℕ, [], ◌∷◌, pos, unsigned_abs, Ok, None, IfOk, IfSome, IfNone};
 ghost use Rattle.box_geo.specs.Sides.{length2};
-ghost use Rattle.pair_lj.specs.PairTerm.{pair_term, HasModerateForce, HasModerateEnergy, HasModerateVirial, IsDisplacement};
+ghost use Rattle.box_geo.specs.Terms.{IsDisplacement};
+ghost use Rattle.pair_lj.specs.PairTerm.{pair_term, HasModerateForce, HasModerateEnergy, HasModerateVirial};
 
 use crate::close::Close;
 use crate::coefficients::Coefficients;

@@ -1,7 +1,8 @@
 //! The term of a pair, put together from the force over the displacement and the energy.
 ghost use Rattle.std.specs.Prelude.{◌≡◌, ◌*◌, ◌^◌, ◌<◌, ◌≤◌, [], ◌∷◌, unsigned_abs};
 ghost use Rattle.fx_num.specs.Rounding.{nearest_of, with_sign};
-ghost use Rattle.pair_lj.specs.PairTerm.{force_along, dot, IsModerate};
+ghost use Rattle.box_geo.specs.Terms.{dot, IsModerate};
+ghost use Rattle.pair_lj.specs.PairTerm.{force_along};
 
 use crate::signs::{product, work};
 use box_geo::Term;

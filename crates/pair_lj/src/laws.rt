@@ -1,6 +1,8 @@
 //! Laws of the pair term and of the table. Each function is empty: its clause is the law.
 ghost use Rattle.std.specs.Prelude.{◌≡◌, ◌^◌, ◌≤◌, ℕ, ℤ, List, IfOk, IfSome};
-ghost use Rattle.pair_lj.specs.PairTerm.{pair_term, weighted_term, force_along, dot, IsOpposite, AreOpposite, HasModerateForce};
+ghost use Rattle.box_geo.specs.Sides.{IsOpposite};
+ghost use Rattle.box_geo.specs.Terms.{dot};
+ghost use Rattle.pair_lj.specs.PairTerm.{pair_term, weighted_term, force_along, AreOpposite, HasModerateForce};
 ghost use Rattle.pair_lj.specs.Pairs.{numbers_at};
 ghost use Rattle.pair_lj.specs.declared.pair_settings.PairCoefficients.{PairCoefficients};
 

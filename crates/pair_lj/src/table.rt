@@ -50,7 +50,8 @@ impl PairTable {
     ghost use Rattle.std.specs.Prelude.{◌≡◌, ◌⊎◌, ◌+◌, ◌<◌, ◌≤◌, ℕ, [], pos, false, min, max, unsigned_abs, ◌<ℤ◌, ◌≤ℤ◌, ◌*ℤ◌, IfOk, IfErr, OnOk, OnErr, IfSome, IfNone, IsSomeAnd, MatchOption};
     ghost use Rattle.std.specs.Option.{option_map};
     ghost use Rattle.box_geo.specs.Sides.{length2};
-    ghost use Rattle.pair_lj.specs.PairTerm.{HasModerateForce, HasModerateEnergy, HasModerateVirial, IsDisplacement};
+    ghost use Rattle.box_geo.specs.Terms.{IsDisplacement};
+    ghost use Rattle.pair_lj.specs.PairTerm.{HasModerateForce, HasModerateEnergy, HasModerateVirial};
     ghost use Rattle.pair_lj.specs.Pairs.{IsFirstUnset, coefficients_of, numbers_at, set_pair, term_by};
     ghost use Rattle.pair_lj.specs.Places.{numbers_in};
     ghost use Rattle.pair_lj.specs.Table.{IsFinished, IsType};

@@ -1,6 +1,6 @@
 //! Worked lists of fixes: what is taken, removed and moved.
 ghost use Rattle.std.specs.Prelude.{◌≡◌, true};
-ghost use Rattle.fix_list.specs.Fixes.{Rises};
+ghost use Rattle.box_geo.specs.Ids.{Rises};
 
 use box_geo::Ids;
 use fix_list::{Fix, FixList, FixRefusal};

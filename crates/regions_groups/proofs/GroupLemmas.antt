@@ -3,7 +3,8 @@ use Rattle.std.proofs.Common.{◌≡◌, ◌∙◌, ◌+◌, ◌-◌, ◌<◌, �
 use Rattle.std.proofs.lemmas.List.Elements.{All-set}
 use Rattle.regions_groups.specs.declared.group_table.NamedGroup.{NamedGroup}
 use Rattle.regions_groups.specs.Groups.{added, is_named, is_there, place_from, AllRise}
-use Rattle.regions_groups.specs.Ids.{union_of, Rises}
+use Rattle.box_geo.specs.Ids.{Rises}
+use Rattle.regions_groups.specs.Ids.{union_of}
 use Rattle.regions_groups.proofs.OrderLemmas.{rises_merged}
 
 -- the place of a name, where it stands

@@ -3,7 +3,8 @@ use Rattle.std.specs.Prelude.{◌+◌, Bool, true, false, cond, codes, ℕ, Opti
 use Rattle.std.specs.List.{All, list_any}
 use Rattle.std.specs.Str.{bytes_eq}
 use Rattle.regions_groups.specs.declared.group_table.NamedGroup.{NamedGroup}
-use Rattle.regions_groups.specs.Ids.{union_of, Rises}
+use Rattle.box_geo.specs.Ids.{Rises}
+use Rattle.regions_groups.specs.Ids.{union_of}
 
 abbrev pub is_named : List ℕ → NamedGroup → Bool
 is_named name g = bytes_eq g.name name

@@ -2,7 +2,7 @@
 ghost use Rattle.std.specs.Prelude.{◌≡◌, ◌≤◌, ◌↔◌, false, length, IfOk, IfSome, OnErr, OnOk};
 ghost use Rattle.std.specs.Option.{option_copied};
 ghost use Rattle.regions_groups.specs.Groups.{added, all_alone, is_there, members, place_from, AllRise};
-ghost use Rattle.regions_groups.specs.Ids.{Rises};
+ghost use Rattle.box_geo.specs.Ids.{Rises};
 
 use crate::id_sets::union_of;
 use box_geo::Ids;
@@ -135,6 +135,13 @@ impl Groups {
         ensures rise { AllRise self.now }
     {
         &self.items
+    }
+
+    /// Whether there is a group of this name.
+    pub fn is_there(&self, name: &Text) -> bool
+        ensures { result ≡ is_there self.now name.now }
+    {
+        self.items.iter().any(|group| group.name.same(name))
     }
 
     /// The ids of the group of this name, in strictly rising order; `None` exactly where there is no such

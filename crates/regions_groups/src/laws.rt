@@ -1,6 +1,7 @@
 //! Laws of regions and of sets of ids.
 ghost use Rattle.std.specs.Prelude.{◌≡◌, ◌&&◌, ◌||◌, not, ℕ, ℤ, List, ◌∷◌};
-ghost use Rattle.regions_groups.specs.Ids.{difference, intersection, is_among, union_of, Rises};
+ghost use Rattle.box_geo.specs.Ids.{is_among, Rises};
+ghost use Rattle.regions_groups.specs.Ids.{difference, intersection, union_of};
 ghost use Rattle.regions_groups.specs.Regions.{holds, other_side, NamedRegion};
 ghost use Rattle.regions_groups.specs.declared.shapes.Region.{Region};
 

@@ -17,7 +17,8 @@ use Rattle.box_geo.specs.Sides.{x_of, y_of, z_of, edge, Holds, IsInside, near_al
 use Rattle.box_geo.proofs.NearLemmas.{apart, has_edge}
 use Rattle.pair_lj.specs.declared.close.Close.{Close}
 use Rattle.pair_lj.specs.declared.pair_settings.PairCoefficients.{PairCoefficients}
-use Rattle.pair_lj.specs.PairTerm.{inverse_square, sixth_power, twelfth_power, strength, energy_at, force_along, dot, is_too_near, is_too_strong, weighted_term, pair_term, IsModerate}
+use Rattle.box_geo.specs.Terms.{dot, is_too_strong, IsModerate}
+use Rattle.pair_lj.specs.PairTerm.{inverse_square, sixth_power, twelfth_power, strength, energy_at, force_along, is_too_near, weighted_term, pair_term}
 use Rattle.pair_lj.specs.Pairs.{IsSoundPair, PairNumbers, numbers_at}
 use Rattle.pair_lj.proofs.PairLemmas.{force_along-weighted}
 use Rattle.pair_lj.proofs.SetLemmas.{numbers_small}

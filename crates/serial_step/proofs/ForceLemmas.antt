@@ -7,11 +7,11 @@ use Rattle.std.proofs.lemmas.Bool.Decides.{nat_tests}
 use Rattle.box_geo.specs.declared.atoms.Atom.{Atom}
 use Rattle.box_geo.specs.declared.sim_box.Sides.{Sides}
 use Rattle.box_geo.specs.declared.term.Term.{Term}
-use Rattle.box_geo.specs.Sides.{x_of, y_of, z_of, near_image, length2, HasEdges}
+use Rattle.box_geo.specs.Sides.{x_of, y_of, z_of, near_image, length2, HasEdges, IsOpposite}
 use Rattle.box_geo.proofs.NearLemmas.{near_image-opposite}
 use Rattle.pair_lj.specs.declared.close.Close.{Close}
 use Rattle.pair_lj.specs.declared.pair_settings.PairCoefficients.{PairCoefficients}
-use Rattle.pair_lj.specs.PairTerm.{pair_term, IsOpposite, AreOpposite}
+use Rattle.pair_lj.specs.PairTerm.{pair_term, AreOpposite}
 use Rattle.pair_lj.specs.Pairs.{PairNumbers, numbers_at}
 use Rattle.pair_lj.proofs.PairLemmas.{pair_term-opposite}
 use Rattle.pair_lj.proofs.SetLemmas.{numbers_at-comm}

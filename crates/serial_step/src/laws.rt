@@ -3,10 +3,10 @@ ghost use Rattle.std.specs.Prelude.{◌≡◌, ◌*◌, ◌<◌, ◌≤◌, ◌�
 ghost use Rattle.std.specs.List.{Contains};
 ghost use Rattle.std.specs.List.Sorted.{IsPermutation};
 ghost use Rattle.box_geo.specs.Fault.{no_fault};
-ghost use Rattle.box_geo.specs.Sides.{near_image, length2, x_of, y_of, z_of, HasEdges};
+ghost use Rattle.box_geo.specs.Sides.{near_image, length2, x_of, y_of, z_of, HasEdges, IsOpposite};
 ghost use Rattle.box_geo.specs.declared.atoms.Atom.{Atom};
 ghost use Rattle.box_geo.specs.declared.sim_box.Sides.{Sides};
-ghost use Rattle.pair_lj.specs.PairTerm.{IsOpposite, AreOpposite};
+ghost use Rattle.pair_lj.specs.PairTerm.{AreOpposite};
 ghost use Rattle.pair_lj.specs.Pairs.{numbers_at};
 ghost use Rattle.pair_lj.specs.declared.pair_settings.PairCoefficients.{PairCoefficients};
 ghost use Rattle.serial_step.specs.Forces.{Field, field_of, term_of, force_of, energy_of, virial_of, force_on, least, pair_energy, pair_virial, terms_fault};

@@ -8,10 +8,11 @@ use borrow.Rule.Slice.PartMut.{put_mid}
 use Rattle.box_geo.specs.declared.atoms.Atom.{Atom}
 use Rattle.box_geo.specs.declared.sim_box.Sides.{Sides}
 use Rattle.box_geo.specs.declared.term.Term.{Term}
-use Rattle.box_geo.specs.Sides.{x_of, y_of, z_of, HasEdges, near_image}
+use Rattle.box_geo.specs.Sides.{x_of, y_of, z_of, HasEdges, near_image, IsOpposite}
 use Rattle.pair_lj.specs.declared.close.Close.{Close}
 use Rattle.pair_lj.specs.Table.{Table}
-use Rattle.pair_lj.specs.PairTerm.{IsModerate, HasModerateForce, IsOpposite}
+use Rattle.box_geo.specs.Terms.{IsModerate}
+use Rattle.pair_lj.specs.PairTerm.{HasModerateForce}
 use Rattle.pair_lj.specs.Pairs.{PairNumbers, numbers_at}
 use Rattle.pair_lj.proofs.PairLemmas.{pair_term-bounded}
 use Rattle.sums.specs.Totals.{total}

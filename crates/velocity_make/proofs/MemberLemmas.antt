@@ -3,7 +3,7 @@ use Rattle.std.proofs.Common.{◌≡◌, ℕ, Result, List, is_ok}
 use Rattle.std.specs.List.Sorted.{IsBinarySearchResult}
 use Rattle.std.specs.Ordering.{nat_cmp}
 use Rattle.box_geo.specs.declared.atoms.Atom.{Atom}
-use Rattle.fix_list.specs.Fixes.{Rises}
+use Rattle.box_geo.specs.Ids.{Rises}
 use Rattle.fix_list.proofs.SearchLemmas.{found-any}
 use Rattle.velocity_make.specs.Group.{is_member}
 

@@ -3,11 +3,11 @@ use Rattle.std.proofs.Common.{◌≡◌, ◌^◌, ◌≤◌, get_or, true, false
 use Rattle.std.proofs.lemmas.Int.{ints}
 use Rattle.std.proofs.lemmas.List.Elements.{All-map}
 use Rattle.box_geo.specs.declared.atoms.Atom.{Atom}
-use Rattle.box_geo.specs.Sides.{x_of, y_of, z_of}
+use Rattle.box_geo.specs.Sides.{x_of, y_of, z_of, IsWithin}
 use Rattle.computes.specs.Quantities.{IsSlow}
 use Rattle.velocity_make.specs.declared.changes.Change.TheVariants.{TakeOff}
 use Rattle.velocity_make.specs.Change.{changed, velocity_after, with_velocity}
-use Rattle.velocity_make.specs.Group.{IsCalm, IsWeighed, IsWithin, is_member, mean, members}
+use Rattle.velocity_make.specs.Group.{IsCalm, IsWeighed, is_member, mean, members}
 use Rattle.velocity_make.specs.Make.{stilled}
 use Rattle.velocity_make.proofs.SumLemmas.{IsSlowAlong, mean_within}
 

@@ -1,17 +1,18 @@
 -- The atoms of a group, and sums over them. Masses and velocities are in units of 2^-24.
 use Rattle.std.specs.Prelude.{◌≡◌, ◌≤◌, ◌==◌, ◌*◌, ◌^◌, cond, true, Bool, ℕ, ℤ, pos, ◌*ℤ◌, ◌≤ℤ◌, unsigned_abs, List, [], ◌∷◌, length, slice_index_or}
-use Rattle.std.specs.List.{filter, list_any}
+use Rattle.std.specs.List.{filter}
 use Rattle.fx_num.specs.Rounding.{div_rounded, shr_rounded}
 use Rattle.fx_num.specs.Roots.{sqrt_of}
 use Rattle.box_geo.specs.declared.atoms.Atom.{Atom}
 use Rattle.box_geo.specs.declared.limits.TheConstants.{MAX_MASS, MIN_MASS}
-use Rattle.box_geo.specs.Sides.{x_of, y_of, z_of}
+use Rattle.box_geo.specs.Ids.{is_among}
+use Rattle.box_geo.specs.Sides.{IsWithin}
 use Rattle.sums.specs.Totals.{total}
 use Rattle.computes.specs.Quantities.{IsSlow, mass_at}
 
 -- whether an atom is of the group of these ids
 abbrev pub is_member : List ℕ → Atom → Bool
-is_member ids a = list_any (λ id. id == a.id) ids
+is_member ids a = is_among ids a.id
 
 -- the atoms of the group, in order
 abbrev pub members : List ℕ → List Atom → List Atom
@@ -20,10 +21,6 @@ members ids atoms = filter (is_member ids) atoms
 -- the atom is not of the group, or its type has a mass within the limits
 abbrev pub IsWeighed : List ℤ → List ℕ → Atom → Type 0
 IsWeighed mass ids a = is_member ids a ≡ true → (1 ≤ a.kind) × (a.kind ≤ length mass) × (MIN_MASS ≤ℤ mass_at mass a.kind) × (mass_at mass a.kind ≤ℤ MAX_MASS)
-
--- each component of a velocity is of magnitude at most a bound
-abbrev pub IsWithin : ℕ → List ℤ → Type 0
-IsWithin bound v = (unsigned_abs (x_of v) ≤ bound) × (unsigned_abs (y_of v) ≤ bound) × (unsigned_abs (z_of v) ≤ bound)
 
 -- the atom is within the limit of speeds, and if it is of the group, as slow as a draw
 abbrev pub IsCalm : List ℕ → Atom → Type 0

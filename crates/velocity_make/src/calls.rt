@@ -1,6 +1,6 @@
 //! The calls: velocities that are drawn, scaled, stilled or set.
 ghost use Rattle.std.specs.Prelude.{◌≡◌, ◌≤◌, ◌^◌, ◌≤ℤ◌, pos, unsigned_abs, All, length, map, None, OnOk, OnErr};
-ghost use Rattle.fix_list.specs.Fixes.{Rises};
+ghost use Rattle.box_geo.specs.Ids.{Rises};
 ghost use Rattle.computes.specs.Quantities.{IsSlow};
 ghost use Rattle.velocity_make.specs.Change.{rest_of};
 ghost use Rattle.velocity_make.specs.Group.{IsCalm, IsWeighed};

@@ -3,7 +3,7 @@ ghost use Rattle.std.specs.Prelude.{◌≡◌, ◌≤◌, ◌^◌, None, pos, �
 ghost use Rattle.computes.specs.Quantities.{IsSlow};
 ghost use Rattle.std.specs.Option.{unwrap_or};
 ghost use Rattle.fx_num.specs.Rounding.{shr_rounded};
-ghost use Rattle.fix_list.specs.Fixes.{Rises};
+ghost use Rattle.box_geo.specs.Ids.{Rises};
 ghost use Rattle.velocity_make.specs.Change.{CanChange, changed, changed_all, is_slow, is_within, least_fast, lesser_fast, rest_of, scaled_by, velocity_after, with_velocity};
 ghost use Rattle.velocity_make.specs.Group.{is_member};
 ghost use Rattle.velocity_make.specs.Make.{answer_of, too_fast};

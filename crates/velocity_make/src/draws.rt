@@ -3,9 +3,10 @@ ghost use Rattle.std.specs.Prelude.{◌≡◌, ◌==◌, cond, ◌≤◌, ◌<�
 ghost use Rattle.fx_num.specs.Rounding.{div_rounded};
 ghost use Rattle.fx_num.specs.Roots.{sqrt_of};
 ghost use Rattle.computes.specs.Quantities.{IsSlow};
-ghost use Rattle.fix_list.specs.Fixes.{Rises};
+ghost use Rattle.box_geo.specs.Ids.{Rises};
 ghost use Rattle.velocity_make.specs.Draw.{after_word, component_of, draw_of, first_word, generator_of};
-ghost use Rattle.velocity_make.specs.Group.{IsCalm, IsWeighed, IsWithin};
+ghost use Rattle.box_geo.specs.Sides.{IsWithin};
+ghost use Rattle.velocity_make.specs.Group.{IsCalm, IsWeighed};
 ghost use Rattle.velocity_make.specs.Make.{drawn, drawn_all};
 
 use crate::changes::with_velocity;

@@ -1,10 +1,10 @@
 //! Sums over the atoms of a group.
 ghost use Rattle.std.specs.Prelude.{◌≡◌, ◌≤◌, ◌≤ℤ◌, ◌<◌, ◌^◌, ◌*◌, cond, pos, ◌*ℤ◌, unsigned_abs, All, length, slice_index_or};
-ghost use Rattle.fix_list.specs.Fixes.{Rises};
+ghost use Rattle.box_geo.specs.Ids.{Rises};
 ghost use Rattle.sums.specs.Totals.{total};
-ghost use Rattle.box_geo.specs.Sides.{length2};
+ghost use Rattle.box_geo.specs.Sides.{length2, IsWithin};
 ghost use Rattle.computes.specs.Quantities.{IsSlow, kinetic_of, kinetic_sum};
-ghost use Rattle.velocity_make.specs.Group.{IsWeighed, IsWithin, is_member, mass_of, mean, members, momentum, momentum_of, of_group, velocity_of, whole_mass};
+ghost use Rattle.velocity_make.specs.Group.{IsWeighed, is_member, mass_of, mean, members, momentum, momentum_of, of_group, velocity_of, whole_mass};
 
 use box_geo::limits::MAX_ATOMS;
 use box_geo::{Atom, length2};

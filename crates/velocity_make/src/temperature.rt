@@ -2,7 +2,7 @@
 ghost use Rattle.std.specs.Prelude.{◌≡◌, ◌≤◌, ◌<◌, ◌^◌, ◌*◌, ◌*ℤ◌, ◌≤ℤ◌, pos, unsigned_abs, All, length};
 ghost use Rattle.fx_num.specs.Rounding.{div_rounded, shr_rounded};
 ghost use Rattle.fx_num.specs.Roots.{sqrt_of};
-ghost use Rattle.fix_list.specs.Fixes.{Rises};
+ghost use Rattle.box_geo.specs.Ids.{Rises};
 ghost use Rattle.computes.specs.Quantities.{IsSlow, freedom, kinetic_sum};
 ghost use Rattle.velocity_make.specs.Change.{CanChange, scaling};
 ghost use Rattle.box_geo.specs.declared.atoms.Atom.{Atom};

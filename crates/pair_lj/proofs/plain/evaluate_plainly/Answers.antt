@@ -4,7 +4,8 @@ use Rattle.fx_num.specs.Rounding.{with_sign, shr_rounded}
 use Rattle.box_geo.specs.declared.term.Term.{Term}
 use Rattle.box_geo.specs.Sides.{length2}
 use Rattle.pair_lj.specs.declared.close.Close.{Close}
-use Rattle.pair_lj.specs.PairTerm.{inverse_square, sixth_power, twelfth_power, strength, energy_at, force_along, dot, is_too_near}
+use Rattle.box_geo.specs.Terms.{dot}
+use Rattle.pair_lj.specs.PairTerm.{inverse_square, sixth_power, twelfth_power, strength, energy_at, force_along, is_too_near}
 use Rattle.pair_lj.proofs.Cases.{far, touching, near, near_false, too_strong, moderate, read_abs, read_r2, outside, inside, apart, read_ratio, read_sixth, read_twelfth, read_strength, read_energy, fits_each, short_parts, small_strength, weighted_fits, weighted_moderate, strong_true, strong_false, term_is}
 use Rattle.pair_lj.proofs.plain.evaluate_plainly.Goals as goal
 

@@ -2,7 +2,8 @@ use Rattle.std.proofs.Common.{◌≡◌, ℤ, unsigned_abs, List, [], ◌∷◌,
 use Rattle.std.proofs.lemmas.Int.{to_z-of_z}
 use Rattle.fx_num.specs.Rounding.{with_sign}
 use Rattle.box_geo.specs.Sides.{length2}
-use Rattle.pair_lj.specs.PairTerm.{force_along, dot}
+use Rattle.box_geo.specs.Terms.{dot}
+use Rattle.pair_lj.specs.PairTerm.{force_along}
 use Rattle.pair_lj.proofs.Cases.{read_abs}
 use Rattle.pair_lj.proofs.QuickLemmas.{quick, powers, ArePowers}
 use Rattle.pair_lj.proofs.quick.quick_term.Goals as goal

@@ -1,5 +1,5 @@
 use Rattle.std.proofs.Common.{◌∙◌, true, false}
-use Rattle.regions_groups.specs.Ids.{is_among}
+use Rattle.box_geo.specs.Ids.{is_among}
 use Rattle.regions_groups.proofs.OrderLemmas.{among_merged, rises_merged, told_difference, told_either, told_intersection}
 use Rattle.regions_groups.proofs.laws.sets_of_ids_have_these_members.Goals as goal
 

@@ -1,6 +1,6 @@
 use Rattle.std.proofs.Common.{◌≡◌, ◌∙◌, nat_eq, is_ok, sym, subst, ap, List, ℕ}
 use Rattle.std.specs.List.{list_any}
-use Rattle.fix_list.specs.Fixes.{Rises}
+use Rattle.box_geo.specs.Ids.{Rises}
 use Rattle.fix_list.proofs.SearchLemmas.{found-any}
 use Rattle.fix_list.proofs.fixes.Fix.moves.Goals as goal
 

@@ -5,7 +5,8 @@ use Rattle.std.proofs.lemmas.Fn.{filter_same}
 use Rattle.std.proofs.lemmas.Grind.{common_steps}
 use Rattle.std.proofs.lemmas.List.Elements.{All-filter}
 use Rattle.fix_list.specs.declared.fixes.NamedFix.{NamedFix}
-use Rattle.fix_list.specs.Fixes.{AllRise, Rises, ids_of, without}
+use Rattle.box_geo.specs.Ids.{Rises}
+use Rattle.fix_list.specs.Fixes.{AllRise, ids_of, without}
 use Rattle.fix_list.proofs.NameLemmas.{without-absent}
 use Rattle.fix_list.proofs.fixes.FixList.remove.Goals as goal
 

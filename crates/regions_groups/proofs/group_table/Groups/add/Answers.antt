@@ -2,7 +2,8 @@ use Rattle.std.proofs.Common.{◌≡◌, ◌∙◌, ◌++◌, ◌∷◌, [], ℕ
 use Rattle.std.proofs.lemmas.List.Elements.{All-push}
 use Rattle.regions_groups.specs.declared.group_table.NamedGroup.{NamedGroup}
 use Rattle.regions_groups.specs.Groups.{added, is_there, place_from, AllRise}
-use Rattle.regions_groups.specs.Ids.{union_of, Rises}
+use Rattle.box_geo.specs.Ids.{Rises}
+use Rattle.regions_groups.specs.Ids.{union_of}
 use Rattle.regions_groups.proofs.GroupLemmas.{absent, placed, united_at, Absent}
 use Rattle.regions_groups.proofs.group_table.Groups.add.Goals as goal
 

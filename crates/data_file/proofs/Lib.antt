@@ -1,7 +1,6 @@
 pub mod BothLemmas
 pub mod HeaderLemmas
 pub mod KeptLemmas
-pub mod LineLemmas
 pub mod OutcomeLemmas
 pub mod ReadLemmas
 pub mod RowLemmas

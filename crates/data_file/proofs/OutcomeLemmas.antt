@@ -10,7 +10,7 @@ use Rattle.data_file.specs.declared.fault.DataFault.TheVariants as fault
 use Rattle.data_file.specs.Fields.{both, decimal_field, decimal_with, list3, made, vector, vector_field, whole_field, whole_with}
 use Rattle.data_file.specs.Header.{counted, once, then}
 use Rattle.data_file.specs.Rows.{unless}
-use Rattle.data_file.specs.Sound.{IsWithin}
+use Rattle.box_geo.specs.Sides.{IsWithin}
 use Rattle.data_file.specs.Words.{word}
 
 -- what holds of a value that is accepted

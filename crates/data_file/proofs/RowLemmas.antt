@@ -14,7 +14,7 @@ use Rattle.box_geo.specs.declared.limits.TheConstants.{MAX_BONDS_OF_ATOM, MAX_CU
 use Rattle.box_geo.specs.declared.sim_box.Axis.{Axis}
 use Rattle.box_geo.specs.declared.sim_box.Sides.{Sides}
 use Rattle.box_geo.specs.declared.styles.AtomStyle.{AtomStyle}
-use Rattle.box_geo.specs.Sides.{HasEdges}
+use Rattle.box_geo.specs.Sides.{HasEdges, IsWithin}
 use Rattle.box_geo.specs.Wrap.{wrap, Wrapped}
 use Rattle.box_geo.proofs.WrapLemmas.{wrap-inside}
 use Rattle.data_file.specs.declared.contents.PairLine.{PairLine}
@@ -23,7 +23,7 @@ use Rattle.data_file.specs.declared.fault.DataFault.TheVariants as fault
 use Rattle.data_file.specs.Fields.{both, decimal_field, id_field, kind_field, made}
 use Rattle.data_file.specs.Header.{then}
 use Rattle.data_file.specs.Rows.{unless, is_bound, angle_fields, angle_line_row, angle_of, angle_parts, angle_row, are_bound, are_images, atom_fields, atom_of, atom_parts, atom_row, bond_fields, bond_line_of, bond_line_parts, bond_line_row, bond_of, bond_parts, bond_row, cutoff_field, edges_off, has_twice, is_absent, is_covered, lacks_atom, mass_row, molecule_field, molecules, pair_fields, pair_of, pair_parts, pair_row, placed, plus, velocity_row, wrapped_atom}
-use Rattle.data_file.specs.Sound.{IsAngleLine, IsAtom, IsBondLine, IsCutoff, IsKind, IsMass, IsPairLine, IsWithin}
+use Rattle.data_file.specs.Sound.{IsAngleLine, IsAtom, IsBondLine, IsCutoff, IsKind, IsMass, IsPairLine}
 use Rattle.data_file.specs.Tables.{is_met, under, zeros}
 use Rattle.data_file.specs.Words.{word}
 use Rattle.data_file.proofs.OutcomeLemmas.{On, on_any, on_both, on_counted, on_decimal, on_made, on_then, on_unless, on_vector_field, on_weaker, on_whole}

@@ -23,10 +23,12 @@ use Rattle.data_file.specs.declared.sections.Section.{Section}
 use Rattle.data_file.specs.declared.sections.Section.TheVariants.{Masses, PairCoeffs, BondCoeffs, AngleCoeffs, Atoms, Velocities, Bonds, Angles}
 use Rattle.data_file.specs.Data.{angle_types, at_line, atom_types, bond_types, contents_with, data_of, finished, goes_on, is_ready, is_whole, judge, judge_line, read_lines, row, start, titled, with_title, within, words_in, Contents}
 use Rattle.data_file.specs.Header.{empty, header_line, is_complete, sides_of}
-use Rattle.data_file.specs.Lines.{physical_lines}
+use Rattle.script_lines.specs.Physical.{physical_lines}
 use Rattle.data_file.specs.Rows.{unless}
 use Rattle.data_file.specs.Sections.{begin, has_angles, has_begun, has_bonds, has_style, rows_of, section_of}
-use Rattle.data_file.specs.Sound.{IsAngle, IsAtom, IsBond, IsSoundSet, IsWithin, Rises}
+use Rattle.box_geo.specs.Ids.{Rises}
+use Rattle.box_geo.specs.Sides.{IsWithin}
+use Rattle.data_file.specs.Sound.{IsAngle, IsAtom, IsBond, IsSoundSet}
 use Rattle.data_file.specs.Tables.{under, with_velocity, zeros}
 use Rattle.data_file.proofs.HeaderLemmas.{given_on, header_on, kinds_on, sides_on, sound_empty, IsSoundHeader}
 use Rattle.data_file.proofs.OutcomeLemmas.{On, on_made, on_unless}

@@ -25,7 +25,8 @@ use Rattle.data_file.specs.Fields.{made}
 use Rattle.data_file.specs.Header.{given_or_zero, sides_of}
 use Rattle.data_file.specs.Rows.{angle_line_row, angle_row, atom_row, bond_line_row, bond_row, mass_row, pair_row, velocity_row}
 use Rattle.data_file.specs.Sections.{has_angles, has_begun, has_bonds, has_style, rows_of}
-use Rattle.data_file.specs.Sound.{IsAngleLine, IsAtom, IsBondLine, IsMass, IsPairLine, IsWithin}
+use Rattle.box_geo.specs.Sides.{IsWithin}
+use Rattle.data_file.specs.Sound.{IsAngleLine, IsAtom, IsBondLine, IsMass, IsPairLine}
 use Rattle.data_file.specs.Tables.{add, is_met, put}
 use Rattle.data_file.proofs.HeaderLemmas.{IsSoundHeader, sides_on}
 use Rattle.data_file.proofs.OutcomeLemmas.{On, on_made}

@@ -12,7 +12,8 @@ use Rattle.std.specs.Map.{keys_of}
 use Rattle.std.specs.Option.{IfSome}
 use Rattle.std.specs.Ordering.{is_eq, match_ordering, nat_cmp}
 use Rattle.std.specs.declared.cmp.Ordering.TheVariants.{Less, Equal, Greater}
-use Rattle.data_file.specs.Sound.{IsMass, Rises}
+use Rattle.box_geo.specs.Ids.{Rises}
+use Rattle.data_file.specs.Sound.{IsMass}
 use Rattle.data_file.specs.Tables.{add, is_met, masses_of, put, under}
 
 same_key : (k e : ℕ) → nat_cmp k e ≡ Equal → k ≡ e

@@ -22,7 +22,7 @@ use Rattle.data_file.specs.declared.sections.Section.{Section}
 use Rattle.data_file.specs.declared.sections.Section.TheVariants.{Masses, PairCoeffs, BondCoeffs, AngleCoeffs, Atoms, Velocities, Bonds, Angles}
 use Rattle.data_file.specs.Fields.{made}
 use Rattle.data_file.specs.Header.{empty, given_or_zero, header_line, is_complete, sides_of}
-use Rattle.data_file.specs.Lines.{physical_lines}
+use Rattle.script_lines.specs.Physical.{physical_lines}
 use Rattle.data_file.specs.Rows.{angle_line_row, angle_row, atom_row, bond_line_row, bond_row, mass_row, number_of, pair_row, unless, velocity_row}
 use Rattle.data_file.specs.Sections.{begin, comes_after_atoms, has_begun, has_style, none_begun, rows_of, section_of}
 use Rattle.data_file.specs.Tables.{add, masses_of, put, with_velocity}
@@ -141,7 +141,9 @@ pub record Contents : Type 0 where
   pub bonds : List Bond
   pub angles : List Angle
   pub pair : List PairLine
+  pub has_bond : Bool  -- whether the file has the section Bond Coeffs, with or without lines
   pub bond : List BondLine
+  pub has_angle : Bool  -- and Angle Coeffs
   pub angle : List AngleLine
 
 abbrev pub contents_with : Reading → Option Sides → Result Contents DataFault
@@ -154,7 +156,9 @@ contents_with s (Some sides) = Ok record {
   bonds = s.bonds;
   angles = s.angles;
   pair = s.pair;
+  has_bond = has_begun BondCoeffs s.begun;
   bond = s.bond;
+  has_angle = has_begun AngleCoeffs s.begun;
   angle = s.angle;
 }
 
@@ -209,7 +213,9 @@ contents_of d = record {
   bonds = d.bonds;
   angles = d.angles;
   pair = d.pair;
+  has_bond = d.has_bond;
   bond = d.bond;
+  has_angle = d.has_angle;
   angle = d.angle;
 }
 

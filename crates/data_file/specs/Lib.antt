@@ -1,7 +1,6 @@
 pub mod Data
 pub mod Fields
 pub mod Header
-pub mod Lines
 pub mod Rows
 pub mod Sections
 pub mod Sound

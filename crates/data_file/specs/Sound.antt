@@ -7,21 +7,14 @@ use Rattle.box_geo.specs.declared.atoms.Bond.{Bond}
 use Rattle.box_geo.specs.declared.limits.TheConstants.{MAX_ATOMS, MAX_BONDS, MAX_CUTOFF, MAX_EPSILON, MAX_ID, MAX_IMAGE, MAX_KINDS, MAX_MASS, MAX_REST_LENGTH, MAX_SIGMA, MAX_SPEED, MAX_STIFFNESS, MIN_MASS}
 use Rattle.box_geo.specs.declared.sim_box.Sides.{Sides}
 use Rattle.box_geo.specs.declared.styles.AtomStyle.{AtomStyle}
-use Rattle.box_geo.specs.Sides.{IsInside, x_of, y_of, z_of}
+use Rattle.box_geo.specs.Ids.{Rises}
+use Rattle.box_geo.specs.Sides.{IsInside, IsWithin, x_of, y_of, z_of}
 use Rattle.data_file.specs.declared.contents.AngleLine.{AngleLine}
 use Rattle.data_file.specs.declared.contents.BondLine.{BondLine}
 use Rattle.data_file.specs.declared.contents.PairLine.{PairLine}
 use Rattle.data_file.specs.Data.{Contents}
 use Rattle.data_file.specs.Sections.{has_angles, has_bonds}
 use Rattle.data_file.specs.Tables.{zeros}
-
--- each component of a vector is of magnitude at most the bound
-abbrev pub IsWithin : ℕ → List ℤ → Type 0
-IsWithin bound v = (unsigned_abs (x_of v) ≤ bound) × (unsigned_abs (y_of v) ≤ bound) × (unsigned_abs (z_of v) ≤ bound)
-
--- ids in strictly rising order
-abbrev pub Rises : List ℕ → Type 0
-Rises ids = (i j : ℕ) → i < j → j < length ids → slice_index ids i < slice_index ids j
 
 -- a type of so many
 abbrev pub IsKind : ℕ → ℕ → Type 0

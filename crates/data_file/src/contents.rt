@@ -53,8 +53,12 @@ pub struct DataSet {
     pub angles: Angles,
     /// The lines of Pair Coeffs, in order.
     pub pair: Seq<PairLine>,
+    /// Whether the file has the section Bond Coeffs, with or without lines.
+    pub has_bond: bool,
     /// The lines of Bond Coeffs, in order.
     pub bond: Seq<BondLine>,
+    /// Whether the file has the section Angle Coeffs, with or without lines.
+    pub has_angle: bool,
     /// The lines of Angle Coeffs, in order.
     pub angle: Seq<AngleLine>,
 }

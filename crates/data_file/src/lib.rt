@@ -8,7 +8,6 @@ mod fault;
 mod fields;
 mod header;
 mod keywords;
-mod lines;
 mod read;
 mod reading;
 mod rows;

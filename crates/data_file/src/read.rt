@@ -2,13 +2,12 @@
 ghost use Rattle.std.specs.Prelude.{◌≡◌, ◌≤◌, ◌+◌, ◌^◌, ℕ, length, Ok, Err, IfOk};
 ghost use Rattle.data_file.specs.Data.{contents_of, data_of, finished, is_there, is_whole, judge_line, read_text, refusal_of, Ends, ReadsText, Takes};
 ghost use Rattle.data_file.specs.declared.fault.DataFault.{DataFault};
-ghost use Rattle.data_file.specs.Lines.{physical_lines};
+ghost use Rattle.script_lines.specs.Physical.{physical_lines};
 ghost use Rattle.data_file.specs.Sound.{IsSoundSet};
 ghost use Rattle.data_file.specs.Tables.{masses_of};
 
 use crate::contents::DataSet;
 use crate::fault::{DataFault, DataRefusal, Stop};
-use crate::lines::{PhysicalLine, first_line};
 use crate::reading::{Reading, rows_of};
 use crate::sections::Section;
 use crate::side::Dim;
@@ -16,6 +15,7 @@ use crate::tables::ById;
 use crate::words::without_comment;
 use box_geo::{AtomStyle, Masses};
 use fx_num::NoMemory;
+use script_lines::{PhysicalLine, first_line};
 use std::alloc::Global;
 
 /// The masses of so many types, 0 where there is none.
@@ -73,7 +73,9 @@ fn finished(alloc: Global, reading: Reading) -> Result<DataSet, Stop>
         bonds: reading.bonds,
         angles: reading.angles,
         pair: reading.pair,
+        has_bond: reading.begun.has(Section::BondCoeffs),
         bond: reading.bond,
+        has_angle: reading.begun.has(Section::AngleCoeffs),
         angle: reading.angle,
     })
 }
@@ -107,7 +109,11 @@ fn read_from(alloc: Global, bytes: &[u8], reading: Reading) -> Result<DataSet, D
     let mut number = 1;
     let mut rest = bytes;
     'lines: while !rest.is_empty() {
-        let PhysicalLine { bytes: line, after } = first_line(rest);
+        let PhysicalLine {
+            bytes: line,
+            after,
+            ..
+        } = first_line(rest);
         match take_line(alloc, &mut reading, number, line) {
             Ok(()) => {}
             Err(why) => return Err(refusal(number, why)),

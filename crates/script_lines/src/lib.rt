@@ -12,6 +12,7 @@ mod substitution;
 mod texts;
 mod words;
 
+pub use physical::{PhysicalLine, first_line};
 pub use refusals::{ExpandRefusal, LineRefusal};
 pub use script::{LineResult, Place, ScriptLine, line_from, next_line};
 pub use substitution::{expand, words_of};

@@ -28,17 +28,17 @@ fn without_return(line: &[u8]) -> &[u8]
 
 /// The first physical line of a text, and the text behind it.
 #[derive(Drop)]
-pub(crate) struct PhysicalLine<'a> {
+pub struct PhysicalLine<'a> {
     /// Its bytes, without the line feed and one carriage return before it.
-    pub(crate) bytes: &'a [u8],
+    pub bytes: &'a [u8],
     /// The text behind it.
-    pub(crate) after: &'a [u8],
+    pub after: &'a [u8],
     /// How many line feeds end it: one, or none at the end of the text.
-    pub(crate) ended: u32,
+    pub ended: u32,
 }
 
 /// The first physical line of a text that has one.
-pub(crate) fn first_line(text: &[u8]) -> PhysicalLine<'_>
+pub fn first_line(text: &[u8]) -> PhysicalLine<'_>
     requires { 0 < length text.now }
     ensures lines { physical_lines text.now ≡ result.bytes.now ∷ physical_lines result.after.now }
     ensures shorter { length result.after.now + result.ended ≤ length text.now }

@@ -1,6 +1,6 @@
 use Rattle.std.proofs.Common.{◌∙◌, ap, subst}
 use Rattle.data_file.specs.Data.{data_of, read_text, start, ReadsText}
-use Rattle.data_file.specs.Lines.{physical_lines}
+use Rattle.script_lines.specs.Physical.{physical_lines}
 use Rattle.data_file.specs.Sound.{IsSoundSet}
 use Rattle.data_file.proofs.ReadLemmas.{reads_ok, reads_refused, sound_ok}
 use Rattle.data_file.proofs.SoundLemmas.{sound_read}

@@ -2,7 +2,7 @@ use Rattle.std.proofs.Common.{◌≡◌, ◌∙◌, [], sym, ap, arith}
 use Rattle.std.proofs.lemmas.Bool.Decides.{nat_tests}
 use Rattle.std.proofs.lemmas.List.{nil_from_length}
 use Rattle.data_file.specs.Data.{read_lines, read_text}
-use Rattle.data_file.specs.Lines.{physical_lines}
+use Rattle.script_lines.specs.Physical.{physical_lines}
 use Rattle.data_file.proofs.ReadLemmas.{end_reads, goes_reads, stop_reads}
 use Rattle.data_file.proofs.read.read_from.Goals as goal
 

@@ -1,6 +1,6 @@
 use Rattle.std.proofs.Common.{◌≡◌, ◌+◌, ◌≤◌, length}
 use Rattle.data_file.specs.Data.{read_lines, read_text}
-use Rattle.data_file.specs.Lines.{physical_lines}
+use Rattle.script_lines.specs.Physical.{physical_lines}
 use Rattle.data_file.proofs.read.read_from.Given as goal
 
 abbrev pub invariant-lines : goal.invariant-lines

@@ -1,6 +1,5 @@
 -- What shows that a refusal had its cause: what contracts see of the outside objects before and after a call.
-use Rattle.std.specs.Prelude.{◌≡◌, ◌≤◌, ◌+◌, ℕ, None, IfNone, IsTrue, OnOk, Result, Ok, Err}
-use Rattle.meaning.specs.declared.code.Code.{Code}
+use Rattle.std.specs.Prelude.{◌≡◌, ◌≤◌, ◌+◌, ℕ, None, IfNone, IsTrue, OnOk, Result, Err}
 use Rattle.meaning.specs.declared.refusal.Refusal.{Refusal}
 use Rattle.meaning.specs.declared.refusal.Refusal.TheVariants.{DiskFault, NoMemory, NotBuilt, Range, ReadFault, WriteFault}
 use Rattle.meaning.specs.declared.refusal.Refusal.TheVariants as why

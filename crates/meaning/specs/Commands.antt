@@ -7,10 +7,13 @@ use Rattle.command_words.specs.declared.command.Command.TheVariants as command
 use Rattle.command_words.specs.declared.fixes.FixStyle.{FixStyle}
 use Rattle.command_words.specs.declared.fixes.FixStyle.TheVariants.{Nve}
 use Rattle.command_words.specs.declared.fixes.NewFix.{NewFix}
+use Rattle.command_words.specs.declared.masses_groups.GroupChange.{GroupChange}
+use Rattle.command_words.specs.declared.masses_groups.Members.{Members}
+use Rattle.command_words.specs.declared.masses_groups.Members.TheVariants.{Variable}
 use Rattle.meaning.specs.declared.settings.Settings.{Settings}
 use Rattle.meaning.specs.Fixes.{fix, unfix}
 use Rattle.meaning.specs.Lattice.{create_atoms, create_box, lattice, region}
-use Rattle.meaning.specs.MassesGroups.{mass}
+use Rattle.meaning.specs.MassesGroups.{group, mass}
 use Rattle.meaning.specs.Neighbors.{comm_cutoff, neighbor}
 use Rattle.meaning.specs.Outcome.{Outcome, answered, done, quits, silent, unbuilt}
 use Rattle.meaning.specs.Output.{log, print}
@@ -21,6 +24,7 @@ use Rattle.meaning.specs.Setup.{atom_style, boundary, dimension, processors, tim
 use Rattle.meaning.specs.SystemFiles.{read_data}
 use Rattle.meaning.specs.Thermo.{thermo}
 use Rattle.meaning.specs.Variables.{variable}
+use Rattle.meaning.specs.Velocity.{velocity}
 use Rattle.outside.specs.declared.files.File.{File}
 
 -- atoms of other styles are not built yet
@@ -32,6 +36,11 @@ atoms_of_style _ s = silent s unbuilt
 abbrev pub fix_of : FixStyle → NewFix → Settings → Outcome
 fix_of Nve f s = answered s (fix f s)
 fix_of _ f s = silent s unbuilt
+
+-- nor are groups by the values of a variable
+abbrev pub group_of : Members → GroupChange → Settings → Outcome
+group_of (Variable name) g s = silent s unbuilt
+group_of _ g s = answered s (group g s)
 
 -- a command, over the files of a shelf
 abbrev pub outcome_of : List File → Command → Settings → Outcome
@@ -49,11 +58,13 @@ outcome_of files (command.CreateBox b) s = answered s (create_box b s)
 outcome_of files (command.CreateAtoms c) s = answered s (create_atoms c s)
 outcome_of files (command.ReadData name) s = read_data files name s
 outcome_of files (command.Mass m) s = answered s (mass m s)
+outcome_of files (command.Group g) s = group_of g.members g s
 outcome_of files (command.PairStyle cutoff) s = answered s (pair_style cutoff s)
 outcome_of files (command.PairCoeff c) s = answered s (pair_coeff c s)
 outcome_of files (command.Neighbor skin) s = done (neighbor skin s)
 outcome_of files command.NeighModify s = done s
 outcome_of files (command.CommModify cutoff) s = done (comm_cutoff cutoff s)
+outcome_of files (command.Velocity v) s = answered s (velocity v s)
 outcome_of files (command.Fix f) s = fix_of f.style f s
 outcome_of files (command.Unfix id) s = answered s (unfix id s)
 outcome_of files (command.Thermo every) s = done (thermo every s)

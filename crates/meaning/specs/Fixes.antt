@@ -1,5 +1,5 @@
 -- Fixes as a script defines them. A fix of the name, group and style of an old one takes its place.
-use Rattle.std.specs.Prelude.{◌&&◌, ◌||◌, Bool, true, false, cond, not, is_some, ℕ, Option, Some, None, Result, Ok, Err, List, [], ◌∷◌, ◌++◌, map, find, codes, nat_le}
+use Rattle.std.specs.Prelude.{◌&&◌, Bool, cond, is_some, nat_le, not, ℕ, Result, Ok, Err, List, [], ◌∷◌, ◌++◌, map}
 use Rattle.std.specs.List.{filter, list_any}
 use Rattle.std.specs.Str.{bytes_eq}
 use Rattle.box_geo.specs.declared.atoms.Atom.{Atom}
@@ -9,12 +9,10 @@ use Rattle.fix_list.specs.Fixes.{movers}
 use Rattle.meaning.specs.declared.code.Code.{Code}
 use Rattle.meaning.specs.declared.code.Code.TheVariants.{NameExists, NoBox, UnknownName}
 use Rattle.command_words.specs.declared.fixes.NewFix.{NewFix}
-use Rattle.meaning.specs.declared.named.Named.{Named}
 use Rattle.meaning.specs.declared.settings.Settings.{Settings}
-
--- until groups come there is the group of all atoms alone
-abbrev pub is_group : List ℕ → Bool
-is_group name = bytes_eq name (codes "all")
+use Rattle.meaning.specs.MassesGroups.{ids_in, ids_of}
+use Rattle.regions_groups.specs.declared.group_table.NamedGroup.{NamedGroup}
+use Rattle.regions_groups.specs.Groups.{is_there}
 
 abbrev pub has_fix : List NewFix → List ℕ → Bool
 has_fix fixes id = list_any (λ f. bytes_eq f.id id) fixes
@@ -32,7 +30,7 @@ with_fixes s (Ok fixes) = cond (is_some s.body) (Ok (record s { named = record s
 with_fixes s (Err why) = Err why
 
 abbrev pub fix : NewFix → Settings → Result Settings Code
-fix f s = cond (is_group f.group) (with_fixes s (fixes_with f s.named.fixes)) (Err UnknownName)
+fix f s = cond (is_there s.named.groups f.group) (with_fixes s (fixes_with f s.named.fixes)) (Err UnknownName)
 
 abbrev pub fixes_without : List ℕ → List NewFix → List NewFix
 fixes_without name fixes = filter (λ f. not (bytes_eq f.id name)) fixes
@@ -44,12 +42,15 @@ unfix name s =
     (Err UnknownName)
 
 -- the fixes of a run, with the members that their groups have when it begins
-abbrev pub ids_of : List Atom → List ℕ
-ids_of atoms = map (λ a. a.id) atoms
+abbrev pub fix_over : List NamedGroup → List Atom → NewFix → NamedFix
+fix_over groups atoms f = record { name = f.id; fix = Nve (ids_in groups atoms f.group) }
 
-abbrev pub fixes_over : List Atom → List NewFix → List NamedFix
-fixes_over atoms fixes = map (λ (f : NewFix). record { name = f.id; fix = Nve (ids_of atoms) }) fixes
+abbrev pub fixes_over : List NamedGroup → List Atom → List NewFix → List NamedFix
+fixes_over groups atoms fixes = map (fix_over groups atoms) fixes
 
--- whether two fixes move one atom
-abbrev pub moves_twice : List Atom → List NewFix → Bool
-moves_twice atoms fixes = list_any (λ id. nat_le 2 (movers (fixes_over atoms fixes) id)) (ids_of atoms)
+-- whether two fixes of a list move an atom
+abbrev pub is_twice : List NamedFix → ℕ → Bool
+is_twice fixes id = nat_le 2 (movers fixes id)
+
+abbrev pub move_twice : List NamedFix → List Atom → Bool
+move_twice fixes atoms = list_any (is_twice fixes) (ids_of atoms)

@@ -1,12 +1,10 @@
 -- `lattice`, `region`, `create_box` and `create_atoms`. Lengths are in units; those that a lattice scales are multiples of its spacing.
-use Rattle.std.specs.Prelude.{◌==◌, ◌+◌, ◌^◌, ◌||◌, ◌*ℤ◌, Bool, true, false, cond, not, is_some, nat_lt, max, pos, unsigned_abs, ℕ, zero, suc, ℤ, Option, Some, None, Result, Ok, Err, List, [], ◌∷◌, ◌++◌, length, slice_index_or}
+use Rattle.std.specs.Prelude.{◌==◌, ◌+◌, ◌^◌, ◌||◌, ◌*ℤ◌, Bool, false, cond, not, is_some, nat_lt, max, pos, unsigned_abs, ℕ, zero, suc, ℤ, Option, Some, None, Result, Ok, Err, List, [], ◌∷◌, ◌++◌, length, slice_index_or}
 use Rattle.std.specs.List.{filter, fold}
 use Rattle.std.specs.Option.{option_map}
 use Rattle.box_geo.specs.declared.atoms.Atom.{Atom}
 use Rattle.box_geo.specs.declared.limits.TheConstants.{MAX_ATOMS, MAX_ID, MAX_POSITION}
-use Rattle.box_geo.specs.declared.sim_box.Sides.{Sides}
 use Rattle.box_geo.specs.Sides.{box_refusal, sides_of, x_of, y_of, z_of}
-use Rattle.command_words.specs.declared.lattice.Block.{Block as BlockSides}
 use Rattle.command_words.specs.declared.lattice.Creation.{Creation}
 use Rattle.command_words.specs.declared.lattice.CreationSites.{CreationSites}
 use Rattle.command_words.specs.declared.lattice.CreationSites.TheVariants as sites
@@ -22,7 +20,6 @@ use Rattle.lattice_fill.specs.Lattice.{dim_of, lengths, spacing_of}
 use Rattle.lattice_fill.specs.Points.{is_inside, points_of}
 use Rattle.meaning.specs.declared.code.Code.{Code}
 use Rattle.meaning.specs.declared.code.Code.TheVariants as code
-use Rattle.meaning.specs.declared.named.Named.{Named}
 use Rattle.meaning.specs.declared.settings.Body.{Body}
 use Rattle.meaning.specs.declared.settings.Settings.{Settings}
 use Rattle.meaning.specs.declared.setup.LatticeChoice.{LatticeChoice}

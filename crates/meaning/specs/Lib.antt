@@ -21,3 +21,4 @@ pub mod SystemFiles
 pub mod Thermo
 pub mod Uses
 pub mod Variables
+pub mod Velocity

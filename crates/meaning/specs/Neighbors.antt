@@ -1,6 +1,5 @@
 -- The skin, and the cutoff that counts besides those of pairs.
 use Rattle.std.specs.Prelude.{ℤ}
-use Rattle.meaning.specs.declared.force.Force.{Force}
 use Rattle.meaning.specs.declared.settings.Settings.{Settings}
 
 abbrev pub neighbor : ℤ → Settings → Settings

@@ -1,5 +1,5 @@
 -- The meaning of a command: one record of what it sends, the state after it, and how the script goes on.
-use Rattle.std.specs.Prelude.{ℕ, Result, Ok, Err, List, [], ◌++◌}
+use Rattle.std.specs.Prelude.{ℕ, Result, Ok, Err, List, []}
 use Rattle.box_geo.specs.declared.fault.FaultKey.{FaultKey}
 use Rattle.meaning.specs.declared.code.Code.{Code}
 use Rattle.meaning.specs.declared.settings.Settings.{Settings}

@@ -1,11 +1,10 @@
 -- `print` and `log`.
 use Rattle.std.specs.Prelude.{ℕ, Option, Some, None, Result, Ok, Err, List, ◌++◌, codes}
 use Rattle.meaning.specs.declared.code.Code.{Code}
-use Rattle.meaning.specs.declared.output.Output.{Output}
 use Rattle.meaning.specs.declared.settings.Settings.{Settings}
 use Rattle.meaning.specs.declared.uses.NameUse.{NameUse}
 use Rattle.meaning.specs.declared.uses.UseKind.TheVariants.{Put}
-use Rattle.meaning.specs.Outcome.{Outcome, answered, goes, refused}
+use Rattle.meaning.specs.Outcome.{Outcome, goes, refused}
 use Rattle.meaning.specs.Shown.{Shown, shown}
 use Rattle.meaning.specs.Uses.{names}
 use Rattle.meaning.specs.Variables.{text_of}

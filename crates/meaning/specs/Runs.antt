@@ -1,9 +1,8 @@
 -- Runs: set-up, and then one serial step after another, with what is due after each.
-use Rattle.std.specs.Prelude.{◌+◌, ◌-◌, ◌/◌, ◌%◌, ◌^◌, ◌==◌, ◌&&◌, ◌||◌, Bool, true, false, cond, not, is_none, nat_le, nat_lt, ℕ, zero, suc, ℤ, pos, ◌+ℤ◌, int_lt, unsigned_abs, Option, Some, None, Result, Ok, Err, List, [], ◌∷◌, ◌++◌, length}
+use Rattle.std.specs.Prelude.{◌+◌, ◌-◌, ◌/◌, ◌%◌, ◌^◌, ◌==◌, ◌&&◌, ◌||◌, Bool, true, false, cond, not, is_none, nat_lt, ℕ, zero, suc, pos, ◌+ℤ◌, unsigned_abs, Option, Some, None, Result, Ok, Err, List, [], ◌++◌, length}
 use Rattle.std.specs.List.{list_all}
 use Rattle.box_geo.specs.declared.fault.FaultKey.{FaultKey}
 use Rattle.box_geo.specs.declared.limits.TheConstants.{MAX_STEP}
-use Rattle.box_geo.specs.declared.sim_box.Axis.{Axis}
 use Rattle.box_geo.specs.Fault.{no_fault}
 use Rattle.fix_list.specs.Fixes.{moves}
 use Rattle.meaning.specs.declared.code.Code.{Code}
@@ -11,13 +10,15 @@ use Rattle.meaning.specs.declared.code.Code.TheVariants.{BadValue, EdgeTooSmall,
 use Rattle.meaning.specs.declared.output.Output.{Output}
 use Rattle.meaning.specs.declared.settings.Body.{Body}
 use Rattle.meaning.specs.declared.settings.Settings.{Settings}
-use Rattle.meaning.specs.Fixes.{fixes_over, moves_twice}
-use Rattle.meaning.specs.Outcome.{Outcome, Way, fails, goes, refused}
+use Rattle.meaning.specs.Fixes.{fixes_over, move_twice}
+use Rattle.meaning.specs.MassesGroups.{are_massive}
+use Rattle.meaning.specs.Outcome.{Outcome, Way, fails, goes, refused, silent, unbuilt}
 use Rattle.meaning.specs.Pairs.{reach_of}
 use Rattle.meaning.specs.Shown.{Shown, nothing_shown, shown, shown_then}
 use Rattle.meaning.specs.Thermo.{is_due, thermo_footer, thermo_header, thermo_line}
 use Rattle.outside.specs.declared.press.Piece.{Piece}
-use Rattle.pair_lj.specs.Pairs.{are_all_had}
+use Rattle.pair_lj.specs.declared.pair_settings.PairCoefficients.{PairCoefficients}
+use Rattle.pair_lj.specs.Pairs.{are_all_had, is_set, types_from}
 use Rattle.serial_step.specs.Forces.{field_of}
 use Rattle.serial_step.specs.Room.{edge_too_small}
 use Rattle.serial_step.specs.Work.{step_pairs}
@@ -44,20 +45,31 @@ setting_of s b = record {
   mass = b.mass;
   skin = unsigned_abs s.force.skin;
   cutoff = reach_of s.force;
-  moves = moves (fixes_over b.atoms s.named.fixes);
+  moves = moves (fixes_over s.named.groups b.atoms s.named.fixes);
 }
 
--- all that forces and motion rest on is set: a pair style, each mass, each pair of types
-abbrev pub is_ready : Settings → Body → Bool
-is_ready s b = not (is_none s.force.pair_style) && list_all (λ m. int_lt (pos 0) m) b.mass && are_all_had (length b.mass) s.force.pairs
+-- whether each type has coefficients with itself: then each pair of types has its own, or may have them mixed
+abbrev pub have_own : ℕ → List PairCoefficients → Bool
+have_own kinds pairs = list_all (λ kind. is_set pairs kind kind) (types_from 1 kinds)
 
--- why a run is refused, in the order of judgement
-abbrev pub run_code : Bool → ℕ → Settings → Body → Option Code
-run_code upto n s b =
+-- all that forces and motion rest on is set: a pair style, each mass, the coefficients of each type with itself
+abbrev pub is_ready : Settings → Body → Bool
+is_ready s b = not (is_none s.force.pair_style) && are_massive b.mass && have_own (length b.mass) s.force.pairs
+
+-- whether the coefficients of a pair of types would have to be mixed, which is not built yet
+abbrev pub is_mixed : Settings → Body → Bool
+is_mixed s b = not (are_all_had (length b.mass) s.force.pairs)
+
+-- why a run is refused, in the order of judgement: first what is asked and what is set, then what rests on the cutoffs and the fixes
+abbrev pub early_code : Bool → ℕ → Settings → Body → Option Code
+early_code upto n s b =
     cond ((upto && nat_lt n b.step) || nat_lt MAX_STEP (last_step upto n b.step)) (Some BadValue)
-    (cond (not (is_ready s b)) (Some Unset)
-    (cond (not (is_none (edge_too_small b.sides (pos (reach_of s.force) +ℤ s.force.skin)))) (Some EdgeTooSmall)
-    (cond (moves_twice b.atoms s.named.fixes) (Some TwiceMoved) None)))
+    (cond (not (is_ready s b)) (Some Unset) None)
+
+abbrev pub late_code : Settings → Body → Option Code
+late_code s b =
+    cond (not (is_none (edge_too_small b.sides (pos (reach_of s.force) +ℤ s.force.skin)))) (Some EdgeTooSmall)
+    (cond (move_twice (fixes_over s.named.groups b.atoms s.named.fixes) b.atoms) (Some TwiceMoved) None)
 
 -- a run or a part of it: its pieces, the uses of names afterwards, the state of the serial step, the way on, and how many terms of pairs it sums
 pub record Ran : Type 0 where
@@ -120,13 +132,20 @@ after_run s b r = record {
   pairs = r.pairs;
 }
 
-abbrev pub run_ready : Bool → ℕ → Settings → Body → Option Code → Outcome
-run_ready upto n s b (Some why) = refused s why
-run_ready upto n s b None = after_run s b (run_of (setting_of s b) s.output (last_step upto n b.step) b.step b.atoms s.output.uses)
+abbrev pub run_ready : Bool → ℕ → Settings → Body → Outcome
+run_ready upto n s b = after_run s b (run_of (setting_of s b) s.output (last_step upto n b.step) b.step b.atoms s.output.uses)
+
+-- a code, or else what is meant
+abbrev pub unless_refused : Settings → Option Code → Outcome → Outcome
+unless_refused s (Some why) meant = refused s why
+unless_refused s None meant = meant
 
 abbrev pub run_in : Bool → ℕ → Settings → Option Body → Outcome
 run_in upto n s None = refused s NoBox
-run_in upto n s (Some b) = run_ready upto n s b (run_code upto n s b)
+run_in upto n s (Some b) =
+    unless_refused s (early_code upto n s b)
+    (cond (is_mixed s b) (silent s unbuilt)
+    (unless_refused s (late_code s b) (run_ready upto n s b)))
 
 -- `run N` and `run N upto`
 abbrev pub run : Bool → ℕ → Settings → Outcome

@@ -1,6 +1,5 @@
 -- How a call ends that is to send pieces and change the state, against its meaning.
-use Rattle.std.specs.Prelude.{◌≡◌, ℕ, OnOk, IfOk, IfErr, Option, Result, Ok, Err, List, []}
-use Rattle.meaning.specs.declared.code.Code.{Code}
+use Rattle.std.specs.Prelude.{◌≡◌, OnOk, IfOk, IfErr, Option, Result, Ok, Err, List, []}
 use Rattle.meaning.specs.declared.refusal.Refusal.{Refusal}
 use Rattle.meaning.specs.declared.refusal.Refusal.TheVariants.{DiskFault, NoMemory, NotBuilt, Range, ReadFault, WriteFault}
 use Rattle.meaning.specs.declared.refusal.Refusal.TheVariants as why
@@ -14,6 +13,11 @@ use Rattle.outside.specs.declared.press.Piece.{Piece}
 use Rattle.outside.specs.declared.press.PutRefusal.{PutRefusal}
 use Rattle.outside.specs.declared.press.PutRefusal.TheVariants as put
 use Rattle.outside.specs.Sent.{plus, SendsCut, SendsFront}
+
+-- why a command ends whose piece was not put
+abbrev pub put_refusal : PutRefusal → Refusal
+put_refusal put.Faulted = WriteFault
+put_refusal put.NoMemory = NoMemory
 
 -- where putting pieces stopped: a prefix of them was sent, and after a failure of the press the next one cut
 abbrev pub PutStopped : PutRefusal → Option (List Piece) → List Piece → Option (List Piece) → Type 0
@@ -32,21 +36,21 @@ pub record EndsBy (how : Way) (meant : Outcome) (old new : Option (List Piece)) 
   pub sent : new ≡ plus old meant.pieces
   pub output : state.output ≡ meant.state.output
 
--- a call that is refused with a code: its pieces were sent, and the state is the one that is meant
-pub record RefusedBy (code : Code) (meant : Outcome) (old new : Option (List Piece)) (state : Settings) : Type 0 where
-  pub way : meant.way ≡ refuses code
+-- the same where nothing of the state is lost: it is the one that is meant
+pub record EndsWhole (how : Way) (meant : Outcome) (old new : Option (List Piece)) (state : Settings) : Type 0 where
+  pub way : meant.way ≡ how
   pub sent : new ≡ plus old meant.pieces
   pub state_is : state ≡ meant.state
 
 -- it ends by a refusal: by that which is meant; or by a fault or want of memory, with a prefix of the pieces
 abbrev pub StoppedBy : Refusal → Outcome → Option (List Piece) → Option (List Piece) → Settings → Type 0
-StoppedBy (why.Code code) meant old new state = RefusedBy code meant old new state
+StoppedBy (why.Code code) meant old new state = EndsWhole (refuses code) meant old new state
 StoppedBy (Range key step) meant old new state = EndsBy (fails key step) meant old new state
 StoppedBy ReadFault meant old new state = SendsFront old meant.pieces new
 StoppedBy WriteFault meant old new state = SendsCut old meant.pieces new
 StoppedBy DiskFault meant old new state = SendsFront old meant.pieces new
 StoppedBy NoMemory meant old new state = SendsFront old meant.pieces new
-StoppedBy NotBuilt meant old new state = EndsBy unbuilt meant old new state
+StoppedBy NotBuilt meant old new state = EndsWhole unbuilt meant old new state
 
 -- a call does what a command means: it goes on, its pieces were sent and the state is the one after it; or it ends by a refusal
 pub record Does {T : Type 0} (meant : Outcome) (old : Option (List Piece)) (result : Result T Refusal) (new : Option (List Piece)) (state : Settings) : Type 0 where

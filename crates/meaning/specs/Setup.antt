@@ -1,5 +1,5 @@
 -- What is set up before there is a box, and the timestep. A command that comes before a box is refused where there is one.
-use Rattle.std.specs.Prelude.{◌==◌, ◌&&◌, Bool, true, false, cond, not, is_some, ℕ, ℤ, Option, Some, None, Result, Ok, Err, List, slice_index_or}
+use Rattle.std.specs.Prelude.{◌==◌, ◌&&◌, Bool, true, false, cond, not, is_some, ℕ, ℤ, Result, Ok, Err, List, slice_index_or}
 use Rattle.box_geo.specs.declared.styles.AtomStyle.{AtomStyle}
 use Rattle.meaning.specs.declared.code.Code.{Code}
 use Rattle.meaning.specs.declared.code.Code.TheVariants.{BoxExists, WrongStyle}

@@ -1,18 +1,18 @@
 -- What the numbers of a state keep to.
-use Rattle.std.specs.Prelude.{◌≡◌, ◌≤◌, ◌⊎◌, ◌+ℤ◌, ◌*ℤ◌, ◌<ℤ◌, ◌≤ℤ◌, Bool, true, ℕ, ℤ, pos, unsigned_abs, Option, IfSome, IsTrue, List, [], length}
+use Rattle.std.specs.Prelude.{◌≡◌, ◌≤◌, ◌⊎◌, ◌≤ℤ◌, ℕ, ℤ, pos, unsigned_abs, IfSome, IsTrue, [], length}
 use Rattle.std.specs.List.{All}
 use Rattle.box_geo.specs.declared.atoms.Atom.{Atom}
-use Rattle.box_geo.specs.declared.limits.TheConstants.{MAX_ATOMS, MAX_CUTOFF, MAX_EPSILON, MAX_FORCE, MAX_ID, MAX_IMAGE, MAX_KINDS, MAX_MASS, MAX_SIGMA, MAX_SKIN, MAX_SPEED, MAX_STEP, MAX_TIMESTEP, MIN_MASS}
+use Rattle.box_geo.specs.declared.limits.TheConstants.{MAX_ATOMS, MAX_CUTOFF, MAX_FORCE, MAX_ID, MAX_IMAGE, MAX_KINDS, MAX_MASS, MAX_SKIN, MAX_SPEED, MAX_STEP, MAX_TIMESTEP, MIN_MASS}
 use Rattle.box_geo.specs.declared.sim_box.Sides.{Sides}
-use Rattle.box_geo.specs.Sides.{IsInside, IsSound as IsSoundSides, x_of, y_of, z_of}
+use Rattle.box_geo.specs.Ids.{Rises}
+use Rattle.box_geo.specs.Sides.{IsInside, IsSound as IsSoundSides, IsWithin}
 use Rattle.command_words.specs.declared.limits.TheConstants.{MAX_DENSITY, MIN_DENSITY}
 use Rattle.command_words.specs.Limits.{IsCutoff}
-use Rattle.fix_list.specs.Fixes.{Rises}
 use Rattle.meaning.specs.declared.force.Force.{Force}
 use Rattle.meaning.specs.declared.settings.Body.{Body}
 use Rattle.meaning.specs.declared.settings.Settings.{Settings}
 use Rattle.meaning.specs.declared.setup.Setup.{Setup}
-use Rattle.meaning.specs.Fixes.{ids_of}
+use Rattle.meaning.specs.MassesGroups.{ids_of}
 use Rattle.box_geo.specs.declared.styles.AtomStyle.TheVariants.{Atomic}
 use Rattle.meaning.specs.declared.setup.LatticeChoice.{LatticeChoice}
 use Rattle.meaning.specs.Setup.{goes_together}
@@ -38,10 +38,6 @@ pub record IsSoundForce (f : Force) : Type 0 where
   pub comm_high : f.comm_cutoff ≤ℤ MAX_CUTOFF
   pub skin_low : pos 0 ≤ℤ f.skin
   pub skin_high : f.skin ≤ℤ MAX_SKIN
-
--- each component of a vector is of magnitude at most the bound
-abbrev pub IsWithin : ℕ → List ℤ → Type 0
-IsWithin bound v = (unsigned_abs (x_of v) ≤ bound) × (unsigned_abs (y_of v) ≤ bound) × (unsigned_abs (z_of v) ≤ bound)
 
 -- a mass within its limits, or 0 where it is not set
 abbrev pub IsSoundMass : ℤ → Type 0

@@ -1,12 +1,11 @@
 -- `read_data`: what is in the box, from a data file, and coefficients of pairs.
-use Rattle.std.specs.Prelude.{◌==◌, ◌||◌, Bool, true, false, cond, not, is_some, nat_le, ℕ, ℤ, Option, Some, None, unwrap_or, Result, Ok, Err, List, [], ◌∷◌, length}
+use Rattle.std.specs.Prelude.{◌==◌, ◌||◌, Bool, cond, not, is_some, nat_le, ℕ, ℤ, Option, Some, None, unwrap_or, Result, Ok, Err, List, [], ◌∷◌, length}
 use Rattle.std.specs.List.{list_any}
 use Rattle.data_file.specs.declared.contents.PairLine.{PairLine}
 use Rattle.data_file.specs.declared.fault.DataFault.{DataFault}
 use Rattle.data_file.specs.Data.{Contents, data_of}
 use Rattle.meaning.specs.declared.code.Code.{Code}
 use Rattle.meaning.specs.declared.code.Code.TheVariants.{BoxExists, DataLine, FileTooLong, NoFile}
-use Rattle.meaning.specs.declared.force.Force.{Force}
 use Rattle.meaning.specs.declared.settings.Body.{Body}
 use Rattle.meaning.specs.declared.settings.Settings.{Settings}
 use Rattle.meaning.specs.declared.uses.NameUse.{NameUse}
@@ -49,9 +48,9 @@ abbrev pub pairs_with : Option ℤ → List PairLine → List PairCoefficients �
 pairs_with None lines pairs = cond (length lines == 0) (Ok pairs) (Err DataLine)
 pairs_with (Some cutoff) lines pairs = cond (list_any (is_uncovered_line cutoff) lines) (Err DataLine) (Ok (with_lines cutoff lines pairs))
 
--- bond and angle styles are not built yet, so their coefficients have no style
+-- bond and angle styles are not built yet, so sections of their coefficients have no style, with or without lines
 abbrev pub has_bonded_lines : Contents → Bool
-has_bonded_lines c = not (length c.bond == 0) || not (length c.angle == 0)
+has_bonded_lines c = c.has_bond || c.has_angle
 
 abbrev pub with_pairs : Settings → Contents → Result (List PairCoefficients) Code → Result Settings Code
 with_pairs s c (Ok pairs) = Ok (record s { body = Some (body_of c); force = record s.force { pairs = pairs } })

@@ -2,7 +2,6 @@
 use Rattle.std.specs.Prelude.{◌==◌, ◌%◌, ◌&&◌, ◌||◌, Bool, not, ℕ, ℤ, pos, ◌+ℤ◌, List, [], ◌∷◌, length, codes}
 use Rattle.computes.specs.Quantities.{energy_share, kinetic_share, kinetic_sum, pressure, temperature}
 use Rattle.fx_num.specs.declared.numbers.Number.{Number}
-use Rattle.meaning.specs.declared.output.Output.{Output}
 use Rattle.meaning.specs.declared.settings.Settings.{Settings}
 use Rattle.serial_step.specs.Step.{Setting, State, Sums, counts}
 use Rattle.thermo_text.specs.Thermo.{footer_text, header_text, line_text, style_one}

@@ -1,17 +1,14 @@
 -- The uses of file names in a call of the program, and pieces under names. The first use of a name fixes what it is used for; a piece is fresh where it
 -- is the first under its name.
-use Rattle.std.specs.Prelude.{◌≡◌, ◌&&◌, ◌||◌, Bool, true, false, cond, not, ℕ, Option, Some, None, Result, Ok, Err, List, [], ◌∷◌, ◌++◌, map, find}
+use Rattle.std.specs.Prelude.{◌&&◌, Bool, true, false, cond, ℕ, Option, Some, None, Result, Ok, Err, List, [], ◌∷◌, ◌++◌, map}
 use Rattle.std.specs.List.{list_any}
 use Rattle.std.specs.Str.{bytes_eq}
 use Rattle.meaning.specs.declared.code.Code.{Code}
 use Rattle.meaning.specs.declared.code.Code.TheVariants as code
 use Rattle.meaning.specs.declared.uses.NameUse.{NameUse}
-use Rattle.meaning.specs.declared.output.Output.{Output}
 use Rattle.meaning.specs.declared.uses.UseKind.{UseKind}
 use Rattle.meaning.specs.declared.uses.UseKind.TheVariants.{Fetched, Put, Kept, Report}
 use Rattle.names.specs.Names.{is_compressed}
-use Rattle.outside.specs.declared.press.Piece.{Piece}
-use Rattle.outside.specs.Sent.{piece_of}
 
 abbrev pub is_same_kind : UseKind → UseKind → Bool
 is_same_kind Fetched Fetched = true

@@ -1,5 +1,5 @@
 -- Variables, and what stands for their names in texts.
-use Rattle.std.specs.Prelude.{ℕ, Option, Some, None, Result, Ok, Err, List}
+use Rattle.std.specs.Prelude.{ℕ, Result, Ok, Err, List}
 use Rattle.fx_num.specs.declared.faults.FormulaFault.{FormulaFault}
 use Rattle.fx_num.specs.declared.faults.FormulaFault.TheVariants as formula
 use Rattle.fx_num.specs.declared.faults.VarFault.{VarFault}
@@ -10,10 +10,10 @@ use Rattle.command_words.specs.declared.variables.VariableStyle.TheVariants as n
 use Rattle.meaning.specs.declared.code.Code.{Code}
 use Rattle.meaning.specs.declared.code.Code.TheVariants as code
 use Rattle.meaning.specs.declared.settings.Settings.{Settings}
-use Rattle.meaning.specs.Outcome.{Outcome, answered, done, refused, silent, unbuilt}
+use Rattle.meaning.specs.Outcome.{Outcome, done, refused, silent, unbuilt}
 use Rattle.script_lines.specs.declared.refusals.ExpandRefusal.{ExpandRefusal}
 use Rattle.script_lines.specs.declared.refusals.ExpandRefusal.TheVariants.{BadDollar, Inner, NoMemory}
-use Rattle.script_lines.specs.Substitution.{Expansion, expansion}
+use Rattle.script_lines.specs.Substitution.{expansion}
 use Rattle.script_lines.specs.Table.{Table}
 use Rattle.var_table.specs.declared.styles.VarStyle.{VarStyle}
 use Rattle.var_table.specs.declared.styles.VarStyle.TheVariants as style

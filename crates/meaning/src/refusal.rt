@@ -1,9 +1,11 @@
 //! Why a command was not carried out.
+ghost use Rattle.meaning.specs.Sends.{put_refusal};
 ghost use Rattle.std.specs.Prelude.{◌≡◌};
 
 use crate::code::Code;
 use box_geo::FaultKey;
 use fx_num::NoMemory;
+use outside::PutRefusal;
 
 /// Why a command was not carried out. File and line are added once, where the script is played.
 #[derive(Clone, Copy, Debug)]
@@ -22,6 +24,16 @@ pub enum Refusal {
     NoMemory,
     /// The command is not built yet.
     NotBuilt,
+}
+
+/// Why a command ends whose piece was not put.
+pub fn put_refusal(why: PutRefusal) -> Refusal
+    ensures { result ≡ put_refusal why }
+{
+    match why {
+        PutRefusal::Faulted => Refusal::WriteFault,
+        PutRefusal::NoMemory => Refusal::NoMemory,
+    }
 }
 
 /// Why a command that changes settings alone was not carried out. The settings are as they were.

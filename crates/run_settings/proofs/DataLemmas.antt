@@ -8,7 +8,7 @@ use Rattle.std.proofs.lemmas.List.Elements.{All-head, All-nil, All-tail, All-wea
 use Rattle.box_geo.specs.declared.atoms.Atom.{Atom}
 use Rattle.box_geo.specs.declared.limits.TheConstants.{MAX_CUTOFF, MAX_FORCE, MAX_KINDS}
 use Rattle.box_geo.specs.declared.sim_box.Sides.{Sides}
-use Rattle.box_geo.specs.Sides.{IsSound as IsSoundSides}
+use Rattle.box_geo.specs.Sides.{IsSound as IsSoundSides, IsWithin}
 use Rattle.command_words.specs.Limits.{IsCutoff}
 use Rattle.data_file.specs.declared.contents.PairLine.{PairLine}
 use Rattle.data_file.specs.Data.{Contents}
@@ -17,7 +17,7 @@ use Rattle.data_file.specs.Sound.{AreKinds, IsAtom, IsPairLine, IsSoundSet}
 use Rattle.meaning.specs.declared.code.Code.{Code}
 use Rattle.meaning.specs.declared.code.Code.TheVariants.{DataLine}
 use Rattle.meaning.specs.declared.settings.Settings.{Settings}
-use Rattle.meaning.specs.Sound.{IsSound, IsSoundAtom, IsSoundBody, IsWithin}
+use Rattle.meaning.specs.Sound.{IsSound, IsSoundAtom, IsSoundBody}
 use Rattle.meaning.specs.SystemFiles.{body_of, is_uncovered_line, pair_of, pairs_with, with_lines}
 use Rattle.pair_lj.specs.declared.pair_settings.PairCoefficients.{PairCoefficients}
 use Rattle.pair_lj.specs.Pairs.{IsSoundPair, is_covered, set_pair}

@@ -15,7 +15,7 @@ use Rattle.box_geo.specs.Wrap.{holds as is_along}
 use Rattle.command_words.specs.declared.lattice.Creation.{Creation}
 use Rattle.command_words.specs.declared.lattice.CreationSites.{CreationSites}
 use Rattle.command_words.specs.declared.lattice.CreationSites.TheVariants as sites
-use Rattle.fix_list.specs.Fixes.{Rises}
+use Rattle.box_geo.specs.Ids.{Rises}
 use Rattle.lattice_fill.proofs.PointLemmas.{all_inside}
 use Rattle.lattice_fill.specs.Lattice.{dim_of}
 use Rattle.lattice_fill.specs.Points.{is_inside, points_of}
@@ -25,7 +25,7 @@ use Rattle.meaning.specs.declared.settings.Body.{Body}
 use Rattle.meaning.specs.declared.settings.Settings.{Settings}
 use Rattle.meaning.specs.declared.setup.LatticeChoice.{LatticeChoice}
 use Rattle.meaning.specs.Lattice.{at_point, atom_at, atoms_at, atoms_with, greatest_id, in_region, is_above_kinds, made_at, not_many, on_lattice, places, single_point, spacing_of_choice, unset_masses}
-use Rattle.meaning.specs.Fixes.{ids_of}
+use Rattle.meaning.specs.MassesGroups.{ids_of}
 use Rattle.regions_groups.specs.Regions.{NamedRegion, holds}
 use Rattle.meaning.specs.Sound.{IsOfSetup, IsSound, IsSoundAtom, IsSoundBody, IsSoundMass}
 

@@ -1,22 +1,12 @@
 //! Fixes.
 ghost use Rattle.meaning.specs.Answers.{Answers, Decides};
-ghost use Rattle.meaning.specs.Fixes.{fix, has_other, is_group, unfix};
+ghost use Rattle.meaning.specs.Fixes.{fix, has_other, unfix};
 ghost use Rattle.meaning.specs.Sound.{IsSound};
 ghost use Rattle.std.specs.Prelude.{◌≡◌, OnOk};
 
 use command_words::NewFix;
 use fx_num::Text;
 use meaning::{Code, Settings, SettingsRefusal};
-
-/// The group of all atoms.
-const ALL: &[u8] = b"all";
-
-/// Whether a group has this name.
-fn is_group(name: &Text) -> bool
-    ensures { result ≡ is_group name.now }
-{
-    name.as_bytes() == ALL
-}
 
 /// Whether a fix of the ID of `new` has another group.
 fn has_other(fixes: &[NewFix], new: &NewFix) -> bool
@@ -36,7 +26,7 @@ pub fn add_fix(settings: &mut Settings, new: NewFix) -> Result<(), SettingsRefus
     ensures is { Answers (fix new settings.old) result settings.old settings.new }
     ensures sound { OnOk result (IsSound settings.new) }
 {
-    if !is_group(&new.group) {
+    if !settings.named.groups.is_there(&new.group) {
         return Err(SettingsRefusal::Code(Code::UnknownName));
     }
     if has_other(settings.named.fixes.as_slice(), &new) {

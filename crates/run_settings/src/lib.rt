@@ -5,6 +5,7 @@
 mod fixes;
 mod lattice;
 mod masses_groups;
+mod members;
 mod neighbors;
 mod pairs;
 mod runs;
@@ -13,13 +14,16 @@ mod setup;
 mod sites;
 mod system_files;
 mod thermo;
+mod velocity;
 
 pub use fixes::{add_fix, remove_fix};
 pub use lattice::{add_region, create_atoms, create_box, set_lattice};
 pub use masses_groups::set_masses;
+pub use members::change_group;
 pub use neighbors::{set_comm_cutoff, set_skin};
 pub use pairs::{set_pair_coefficients, set_pair_style};
 pub use runs::reset_timestep;
 pub use setup::{set_atom_style, set_boundary, set_dimension, set_processors, set_timestep};
 pub use system_files::take_data;
 pub use thermo::set_thermo;
+pub use velocity::change_velocities;

@@ -30,7 +30,7 @@ pub(crate) fn is_beyond(range: &KindRange, kinds: u8) -> bool
 }
 
 /// Whether a range has a type.
-fn has_kind(range: &KindRange, kinds: u8, kind: u8) -> bool
+pub(crate) fn has_kind(range: &KindRange, kinds: u8, kind: u8) -> bool
     ensures { result ≡ has_kind range.now kinds kind }
 {
     range.first <= kind && kind <= last_of(range, kinds)

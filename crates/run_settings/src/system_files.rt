@@ -95,7 +95,7 @@ pub fn take_data(
     ensures is { Answers (taken (contents_of set) settings.old) result settings.old settings.new }
     ensures sound { OnOk result (IsSound settings.new) }
 {
-    if !set.bond.is_empty() || !set.angle.is_empty() {
+    if set.has_bond || set.has_angle {
         return Err(SettingsRefusal::Code(Code::DataLine));
     }
     let force = &settings.force;

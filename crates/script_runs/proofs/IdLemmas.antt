@@ -7,7 +7,7 @@ use Rattle.box_geo.specs.Fault.{no_fault}
 use Rattle.box_geo.specs.Wrap.{Wrapped, wrap}
 use Rattle.meaning.specs.declared.output.Output.{Output}
 use Rattle.meaning.specs.declared.uses.NameUse.{NameUse}
-use Rattle.meaning.specs.Fixes.{ids_of}
+use Rattle.meaning.specs.MassesGroups.{ids_of}
 use Rattle.meaning.specs.Runs.{Ran, after_set_up, after_step, run_from, run_of}
 use Rattle.serial_step.specs.Forces.{Field, force_on, with_force, with_forces}
 use Rattle.serial_step.specs.Step.{Outcome as StepOutcome, Setting, State, atoms_of, drifted, drifted_at, drifted_if, is_too_fast, kicked, kicked_again, kicked_if, moved, serial_step, set_up, wrapped_atom}

@@ -7,14 +7,14 @@ use Rattle.meaning.specs.declared.refusal.Refusal.TheVariants as why
 use Rattle.meaning.specs.declared.uses.NameUse.{NameUse}
 use Rattle.meaning.specs.Outcome.{fails}
 use Rattle.meaning.specs.Runs.{Ran, halted, shows, sums_up}
-use Rattle.meaning.specs.Sends.{Shows}
+use Rattle.meaning.specs.Sends.{Shows, put_refusal}
 use Rattle.meaning.specs.Shown.{Shown}
 use Rattle.outside.specs.declared.press.Piece.{Piece}
 use Rattle.outside.specs.declared.press.PutRefusal.{PutRefusal}
 use Rattle.outside.specs.declared.press.PutRefusal.TheVariants as put
 use Rattle.outside.specs.Sent.{plus, SendsCut, SendsFront}
 use Rattle.outside.proofs.Sending.{plus-nil, plus_after, SendsCut-after, SendsCut-more, SendsFront-after, SendsFront-more, SendsFront-none}
-use Rattle.script_runs.specs.Parts.{Begins, FailsAt, Leads, Makes, RunStopped, put_refusal}
+use Rattle.script_runs.specs.Parts.{Begins, FailsAt, Leads, Makes, RunStopped}
 use Rattle.serial_step.specs.Step.{State}
 
 -- nothing was sent yet

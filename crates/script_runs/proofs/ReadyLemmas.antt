@@ -1,6 +1,6 @@
 -- What an engine has from settings keeps to the ranges of a run, and makes the run that is meant.
-use Rattle.std.proofs.Common.{◌≡◌, ⊎_elim, ◌^◌, ◌-◌, ◌<◌, ◌≤◌, true, ℕ, ℤ, pos, ◌≤ℤ◌, int_lt, unsigned_abs, Option, Some, None, Result, List, [], ◌∷◌, length, slice_index_or, refl, sym, ap, subst, ◌∙◌, arith}
-use Rattle.std.specs.List.{All, AllByRecursion, list_all}
+use Rattle.std.proofs.Common.{◌≡◌, ⊎_elim, ◌^◌, ◌-◌, ◌<◌, ◌≤◌, true, ℕ, ℤ, pos, ◌≤ℤ◌, int_lt, unsigned_abs, Option, Some, None, Result, List, [], ◌∷◌, length, slice_index_or, sym, ap, subst, ◌∙◌, arith}
+use Rattle.std.specs.List.{All, AllByRecursion}
 use Rattle.std.proofs.lemmas.Bool.Decides.{nat_tests}
 use Rattle.std.proofs.lemmas.Int.{ints}
 use Rattle.std.proofs.lemmas.List.Elements.{All-from_recursion, recursion_from_All}
@@ -12,16 +12,17 @@ use Rattle.box_geo.specs.declared.atoms.System.{System}
 use Rattle.box_geo.specs.declared.limits.TheConstants.{MAX_MASS, MIN_MASS}
 use Rattle.box_geo.specs.declared.sim_box.Axis.{Axis}
 use Rattle.box_geo.specs.declared.sim_box.Sides.{Sides}
-use Rattle.command_words.specs.declared.fixes.NewFix.{NewFix}
+use Rattle.box_geo.specs.Ids.{Rises}
 use Rattle.fix_list.specs.declared.fixes.NamedFix.{NamedFix}
-use Rattle.fix_list.specs.Fixes.{AllRise, Rises, ids_of as fix_ids, moves}
+use Rattle.fix_list.specs.Fixes.{moves}
 use Rattle.meaning.specs.declared.force.Force.{Force}
 use Rattle.meaning.specs.declared.output.Output.{Output}
 use Rattle.meaning.specs.declared.refusal.Refusal.{Refusal}
 use Rattle.meaning.specs.declared.settings.Body.{Body}
 use Rattle.meaning.specs.declared.settings.Settings.{Settings}
 use Rattle.meaning.specs.declared.uses.NameUse.{NameUse}
-use Rattle.meaning.specs.Fixes.{fixes_over, ids_of}
+use Rattle.meaning.specs.Fixes.{fixes_over}
+use Rattle.meaning.specs.MassesGroups.{are_massive, ids_of}
 use Rattle.meaning.specs.Pairs.{reach_of}
 use Rattle.meaning.specs.Runs.{Ran, run_of, setting_of}
 use Rattle.meaning.specs.Sound.{IsOfSetup, IsSoundAtom, IsSoundBody, IsSoundForce, IsSoundMass}
@@ -43,14 +44,6 @@ use Rattle.step_engine.specs.Engine.{World, setting_of as engine_setting, world_
 use Rattle.step_engine.specs.Ranges.{AreAtoms, AreRules, HasMass, IsForceField, IsMovable, IsPlaced, IsState}
 use Rattle.step_engine.specs.declared.rules.ForceField.{ForceField}
 use Rattle.step_engine.specs.declared.rules.Rules.{Rules}
-
--- the ids of each fix rise
-pub all_rise : (atoms : List Atom) (fixes : List NewFix) → Rises (ids_of atoms) → AllRise (fixes_over atoms fixes)
-all_rise atoms fixes rises = All-from_recursion (λ (named : NamedFix). Rises (fix_ids named.fix)) (fixes_over atoms fixes) (each fixes)
-  where
-    each : (fs : List NewFix) → AllByRecursion (λ (named : NamedFix). Rises (fix_ids named.fix)) (fixes_over atoms fs)
-    each [] = tt
-    each (f ∷ fs) = (rises, each fs)
 
 -- a force field of a table of the pairs that are set
 pub field_ready : (kinds : ℕ) (force : Force) (table : Table) (rcmax : ℤ) → IsSoundForce force → IsTableOf kinds force table → rcmax ≡ pos (reach_of force) → are_all_had kinds force.pairs ≡ true → 1 ≤ kinds → reach_of force ≤ 2 ^ 28
@@ -74,18 +67,18 @@ placed table b size sound = λ k d lt.
 mass_within : (m : ℤ) → IsSoundMass m → int_lt (pos 0) m ≡ true → (MIN_MASS ≤ℤ m) × (m ≤ℤ MAX_MASS)
 mass_within m sound some = ⊎_elim (λ (none : m ≡ pos 0). absurd (grind (arith, ints, nat_tests))) (λ within. within) sound
 
-massive : (mass : List ℤ) (kind : ℕ) → 1 ≤ kind → kind ≤ length mass → All IsSoundMass mass → list_all (λ m. int_lt (pos 0) m) mass ≡ true → HasMass mass kind
+massive : (mass : List ℤ) (kind : ℕ) → 1 ≤ kind → kind ≤ length mass → All IsSoundMass mass → are_massive mass ≡ true → HasMass mass kind
 massive mass kind low high sound some =
     let below : kind - 1 < length mass = omega arith in
     let within = mass_within (slice_index_or mass (kind - 1) (pos 1)) (sound (kind - 1) (pos 1) below) (AllPass-from_list_all (λ m. int_lt (pos 0) m) mass some (kind - 1) (pos 1) below) in
     (low, high, within.0, within.1)
 
-movable : (b : Body) → IsSoundBody b → list_all (λ m. int_lt (pos 0) m) b.mass ≡ true → All (IsMovable b.mass) b.atoms
+movable : (b : Body) → IsSoundBody b → are_massive b.mass ≡ true → All (IsMovable b.mass) b.atoms
 movable b sound some = λ k d lt.
     let a : IsSoundAtom b.sides (length b.mass) (slice_index_or b.atoms k d) = sound.atoms k d lt in
     record { massive = massive b.mass (slice_index_or b.atoms k d).kind a.kind_low a.kind_high sound.mass some; v = a.v; f = a.f; image = a.image }
 
-pub atoms_ready : (r : Rules) (b : Body) (atoms : List Atom) → r.field.pairs.kinds ≡ length b.mass → r.cell.sides ≡ b.sides → r.mass ≡ b.mass → atoms ≡ b.atoms → IsSoundBody b → list_all (λ m. int_lt (pos 0) m) b.mass ≡ true → AreAtoms r atoms
+pub atoms_ready : (r : Rules) (b : Body) (atoms : List Atom) → r.field.pairs.kinds ≡ length b.mass → r.cell.sides ≡ b.sides → r.mass ≡ b.mass → atoms ≡ b.atoms → IsSoundBody b → are_massive b.mass ≡ true → AreAtoms r atoms
 atoms_ready r b atoms size sides mass are sound some =
     subst (λ (list : List Atom). AreAtoms r list) (sym are)
     record {
@@ -122,7 +115,7 @@ has_room s t reach room axis same equal none small =
     cc
 
 -- the engine makes the run that is meant
-setting_same : (s : Settings) (b : Body) (kinds : ℕ) (w : World) (fixes : List NamedFix) → IsEngineOf s.force s.setup.timestep kinds b w → fixes ≡ fixes_over b.atoms s.named.fixes → engine_setting w.rules fixes ≡ setting_of s b
+setting_same : (s : Settings) (b : Body) (kinds : ℕ) (w : World) (fixes : List NamedFix) → IsEngineOf s.force s.setup.timestep kinds b w → fixes ≡ fixes_over s.named.groups b.atoms s.named.fixes → engine_setting w.rules fixes ≡ setting_of s b
 setting_same s b kinds w fixes is same =
     let pairs = is.table.pairs_are in
     let sides = is.sides in
@@ -130,10 +123,10 @@ setting_same s b kinds w fixes is same =
     let mass = is.mass in
     let skin = is.skin in
     let cutoff = is.reach in
-    let which : moves fixes ≡ moves (fixes_over b.atoms s.named.fixes) = ap moves same in
+    let which : moves fixes ≡ moves (fixes_over s.named.groups b.atoms s.named.fixes) = ap moves same in
     cc
 
-pub run_same : (s : Settings) (b : Body) (kinds : ℕ) (w : World) (fixes : List NamedFix) (last : ℕ) → IsEngineOf s.force s.setup.timestep kinds b w → fixes ≡ fixes_over b.atoms s.named.fixes
+pub run_same : (s : Settings) (b : Body) (kinds : ℕ) (w : World) (fixes : List NamedFix) (last : ℕ) → IsEngineOf s.force s.setup.timestep kinds b w → fixes ≡ fixes_over s.named.groups b.atoms s.named.fixes
     → run_of (engine_setting w.rules fixes) s.output last w.state.step w.state.atoms s.output.uses ≡ run_of (setting_of s b) s.output last b.step b.atoms s.output.uses
 run_same s b kinds w fixes last is same =
     let o = s.output in
@@ -191,7 +184,7 @@ body_sound b w sound fit sides mass size same bonds angles =
 
 -- what the engine makes is what is meant
 pub makes_meant : (s : Settings) (b : Body) (w : World) (fixes : List NamedFix) (last : ℕ) (dt : ℤ) (old new : Option (List Piece)) (before counted : ℕ) (r : Result Unit Refusal) (uses : List NameUse) (state : State) → dt ≡ s.setup.timestep → IsEngineOf s.force dt (length b.mass) b w
-    → fixes ≡ fixes_over b.atoms s.named.fixes → Makes (run_of (engine_setting w.rules fixes) s.output last w.state.step w.state.atoms s.output.uses) old before r new counted uses state
+    → fixes ≡ fixes_over s.named.groups b.atoms s.named.fixes → Makes (run_of (engine_setting w.rules fixes) s.output last w.state.step w.state.atoms s.output.uses) old before r new counted uses state
     → Makes (run_of (setting_of s b) s.output last b.step b.atoms s.output.uses) old before r new counted uses state
 makes_meant s b w fixes last dt old new before counted r uses state timestep is same h =
     let at : IsEngineOf s.force s.setup.timestep (length b.mass) b w = subst (λ (t : ℤ). IsEngineOf s.force t (length b.mass) b w) timestep is in

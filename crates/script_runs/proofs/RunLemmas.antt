@@ -8,7 +8,7 @@ use Rattle.meaning.specs.declared.refusal.Refusal.{Refusal}
 use Rattle.meaning.specs.declared.uses.NameUse.{NameUse}
 use Rattle.meaning.specs.Outcome.{goes}
 use Rattle.meaning.specs.Runs.{Ran, after_step, halted, line_shown, run_from, run_of, shows, sums_up}
-use Rattle.meaning.specs.Sends.{Shows}
+use Rattle.meaning.specs.Sends.{Shows, put_refusal}
 use Rattle.meaning.specs.Shown.{Shown, shown}
 use Rattle.meaning.specs.Thermo.{thermo_footer}
 use Rattle.outside.specs.declared.press.Piece.{Piece}
@@ -17,7 +17,7 @@ use Rattle.outside.specs.declared.press.PutRefusal.TheVariants as put
 use Rattle.outside.specs.Sent.{plus}
 use Rattle.outside.proofs.Sending.{SendsCut-more, SendsFront-more}
 use Rattle.script_runs.specs.Line.{footer_now}
-use Rattle.script_runs.specs.Parts.{Begins, Leads, Makes, RunStopped, put_refusal, set_up_part, step_part}
+use Rattle.script_runs.specs.Parts.{Begins, Leads, Makes, RunStopped, set_up_part, step_part}
 use Rattle.script_runs.proofs.PartLemmas.{begins_makes, begins_stop, leads_makes, leads_on}
 use Rattle.script_runs.proofs.ShowLemmas.{shown-others, shows_others}
 use Rattle.script_runs.proofs.StepLemmas.{step_part-same}

@@ -1,5 +1,5 @@
 -- The table of the pairs that are set, and how far they reach.
-use Rattle.std.proofs.Common.{◌≡◌, ◌^◌, ◌<◌, ◌≤◌, Bool, true, false, cond, max, ℕ, ℤ, pos, ◌≤ℤ◌, unsigned_abs, FitsSigned, to_z, of_z, Option, Some, None, IfSome, List, [], ◌∷◌, fold, is_some, sym, subst, arith}
+use Rattle.std.proofs.Common.{◌≡◌, ◌^◌, ◌<◌, ◌≤◌, Bool, true, false, cond, max, ℕ, ℤ, pos, ◌≤ℤ◌, unsigned_abs, FitsSigned, to_z, of_z, Option, Some, IfSome, List, [], ◌∷◌, fold, is_some, arith}
 use Rattle.std.specs.Int.{w64}
 use Rattle.std.specs.List.{AllByRecursion}
 use Rattle.std.specs.Option.{option_map}

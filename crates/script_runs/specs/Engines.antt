@@ -1,9 +1,9 @@
 -- What the engine of a run has from settings.
-use Rattle.std.specs.Prelude.{◌≡◌, ℕ, ℤ, pos, ◌+ℤ◌, true, int_lt, unsigned_abs, None, IsSome, length}
-use Rattle.std.specs.List.{list_all}
+use Rattle.std.specs.Prelude.{◌≡◌, ℕ, ℤ, pos, ◌+ℤ◌, true, unsigned_abs, None, IsSome, length}
 use Rattle.meaning.specs.declared.force.Force.{Force}
 use Rattle.meaning.specs.declared.settings.Body.{Body}
 use Rattle.meaning.specs.declared.settings.Settings.{Settings}
+use Rattle.meaning.specs.MassesGroups.{are_massive}
 use Rattle.meaning.specs.Pairs.{reach_of}
 use Rattle.pair_lj.specs.Pairs.{are_all_had}
 use Rattle.pair_lj.specs.Table.{IsFinished, Table}
@@ -38,6 +38,6 @@ pub record IsEngineOf (force : Force) (dt : ℤ) (kinds : ℕ) (b : Body) (w : W
 -- nothing refuses a run: all that it rests on is set, and each edge has room
 pub record IsReady (s : Settings) (b : Body) : Type 0 where
   pub style : IsSome s.force.pair_style
-  pub massive : list_all (λ m. int_lt (pos 0) m) b.mass ≡ true
+  pub massive : are_massive b.mass ≡ true
   pub set : are_all_had (length b.mass) s.force.pairs ≡ true
   pub room : edge_too_small b.sides (pos (reach_of s.force) +ℤ s.force.skin) ≡ None

@@ -1,3 +1,4 @@
 pub mod Engines
+pub mod Judged
 pub mod Line
 pub mod Parts

@@ -11,17 +11,10 @@ use Rattle.meaning.specs.declared.uses.NameUse.{NameUse}
 use Rattle.meaning.specs.Outcome.{fails, goes}
 use Rattle.meaning.specs.Runs.{Ran, after_set_up, after_step, sums_up}
 use Rattle.outside.specs.declared.press.Piece.{Piece}
-use Rattle.outside.specs.declared.press.PutRefusal.{PutRefusal}
-use Rattle.outside.specs.declared.press.PutRefusal.TheVariants as put
 use Rattle.outside.specs.Sent.{plus, SendsCut, SendsFront}
 use Rattle.serial_step.specs.Step.{Outcome as StepOutcome, Setting, State, serial_step, set_up}
 use Rattle.serial_step.specs.Work.{step_pairs}
 use Rattle.sums.specs.Totals.{half}
-
--- the refusal of a text that was not put
-abbrev pub put_refusal : PutRefusal → Refusal
-put_refusal put.Faulted = WriteFault
-put_refusal put.NoMemory = NoMemory
 
 -- a run fails at a step: all its pieces were sent, and the uses of names are those after it
 pub record FailsAt (key : FaultKey) (step : ℕ) (meant : Ran) (old new : Option (List Piece)) (uses : List NameUse) : Type 0 where

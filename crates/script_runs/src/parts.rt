@@ -1,9 +1,9 @@
 //! The parts of a run, from settings: the table of pairs, the fixes, the engine.
-ghost use Rattle.std.specs.Prelude.{◌≡◌, ◌≤◌, ◌^◌, ◌+ℤ◌, pos, true, int_lt, length, None, IfOk, IsSome};
-ghost use Rattle.std.specs.List.{list_all};
-ghost use Rattle.fix_list.specs.Fixes.{Rises};
-ghost use Rattle.fix_list.specs.declared.fixes.Fix.TheVariants.{Nve};
-ghost use Rattle.meaning.specs.Fixes.{fixes_over, ids_of};
+ghost use Rattle.std.specs.Prelude.{◌≡◌, ◌≤◌, ◌^◌, ◌+ℤ◌, pos, true, length, None, IfOk, IsSome};
+ghost use Rattle.box_geo.specs.Ids.{Rises};
+ghost use Rattle.fix_list.specs.Fixes.{AllRise, ids_of as moved_ids};
+ghost use Rattle.meaning.specs.Fixes.{fix_over, fixes_over};
+ghost use Rattle.meaning.specs.MassesGroups.{are_massive, ids_of};
 ghost use Rattle.meaning.specs.Pairs.{reach_of};
 ghost use Rattle.meaning.specs.Sound.{IsSoundBody, IsSoundForce};
 ghost use Rattle.pair_lj.specs.Pairs.{are_all_had};
@@ -12,12 +12,13 @@ ghost use Rattle.serial_step.specs.Room.{edge_too_small};
 ghost use Rattle.step_engine.specs.Ranges.{IsTimestep};
 
 use box_geo::limits::MAX_KINDS;
-use box_geo::{Atom, Ids, SimBox, System};
+use box_geo::{Atom, SimBox, System};
 use command_words::NewFix;
-use fix_list::{Fix, FixList, NamedFix};
-use fx_num::{NoMemory, Seq};
-use meaning::{Body, Force};
+use fix_list::{Fix, NamedFix};
+use fx_num::NoMemory;
+use meaning::{Body, Force, ids_in};
 use pair_lj::PairTable;
+use regions_groups::Groups;
 use std::alloc::Global;
 use step_engine::{Engine, EngineRefusal, ForceField};
 
@@ -51,41 +52,39 @@ fn table_of(alloc: Global, force: &Force, kinds: u8) -> Result<PairTable, NoMemo
     }
 }
 
-/// The ids of the atoms.
-fn ids_of(alloc: Global, atoms: &[Atom]) -> Result<Ids, NoMemory>
-    ensures { IfOk result (λ ids. ids ≡ ids_of atoms.now) }
-{
-    let mut ids = Seq::new(alloc);
-    for atom in atoms {
-        ids.push(atom.id)?;
-    }
-    Ok(ids)
-}
-
-/// A fix over all of these atoms.
-fn fix_over(alloc: Global, atoms: &[Atom], fix: &NewFix) -> Result<NamedFix, NoMemory>
-    ensures { IfOk result (λ named. named ≡ record { name = fix.now.id; fix = Nve (ids_of atoms.now) }) }
+/// A fix over the atoms of its group.
+fn fix_over(
+    alloc: Global,
+    groups: &Groups,
+    atoms: &[Atom],
+    fix: &NewFix,
+) -> Result<NamedFix, NoMemory>
+    requires { Rises (ids_of atoms.now) }
+    ensures is { IfOk result (λ named. named ≡ fix_over groups.now atoms.now fix.now) }
+    ensures rises { IfOk result (λ named. Rises (moved_ids named.fix)) }
 {
     Ok(NamedFix {
         name: fix.id.copy(alloc)?,
-        fix: Fix::Nve(ids_of(alloc, atoms)?),
+        fix: Fix::Nve(ids_in(alloc, groups, atoms, &fix.group)?),
     })
 }
 
-/// The fixes of a run over these atoms, whose ids stand in strictly rising order.
+/// The fixes of a run, each over the atoms of its group. The ids of these atoms stand in strictly rising order.
 pub(crate) fn fixes_over(
     alloc: Global,
+    groups: &Groups,
     atoms: &[Atom],
     fixes: &[NewFix],
-) -> Result<FixList, NoMemory>
+) -> Result<Vec<NamedFix>, NoMemory>
     requires { Rises (ids_of atoms.now) }
-    ensures { IfOk result (λ list. list ≡ fixes_over atoms.now fixes.now) }
+    ensures are { IfOk result (λ over. over.items ≡ fixes_over groups.now atoms.now fixes.now) }
+    ensures rise { IfOk result (λ over. AllRise over.items) }
 {
-    let mut items = Vec::new(alloc);
+    let mut over = Vec::new(alloc);
     for fix in fixes {
-        items.push(fix_over(alloc, atoms, fix)?)?;
+        over.push(fix_over(alloc, groups, atoms, fix)?)?;
     }
-    Ok(FixList::from_vec(items))
+    Ok(over)
 }
 
 /// The system of a body, under a timestep.
@@ -129,7 +128,7 @@ pub(crate) fn engine_of(
     requires timestep { IsTimestep dt }
     requires body { IsSoundBody body }
     requires style { IsSome force.now.pair_style }
-    requires massive { list_all (λ m. int_lt (pos 0) m) body.mass ≡ true }
+    requires massive { are_massive body.mass ≡ true }
     requires set { are_all_had (length body.mass) force.now.pairs ≡ true }
     requires room { edge_too_small body.sides (pos (reach_of force.now) +ℤ force.now.skin) ≡ None }
     ensures { IfOk result (IsEngineOf force.now dt (length body.mass) body) }

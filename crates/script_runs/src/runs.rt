@@ -1,27 +1,31 @@
 //! `run`: set-up, and the steps, with what is due after each.
 ghost use Rattle.std.specs.Prelude.{◌≡◌, ◌≤◌, Some, None, IfErr, OnOk};
 ghost use Rattle.meaning.specs.Causes.{Counted, Kept, Rests, Stays, press_alone};
-ghost use Rattle.meaning.specs.Runs.{after_run, run, run_code, run_of, setting_of};
+ghost use Rattle.meaning.specs.Fixes.{fixes_over};
+ghost use Rattle.meaning.specs.Runs.{after_run, run, run_of, setting_of};
 ghost use Rattle.meaning.specs.Sends.{Does};
 ghost use Rattle.meaning.specs.Sound.{IsSound};
 ghost use Rattle.script_runs.specs.Engines.{IsReady};
 
-use crate::judge::{last_step, run_code};
-use crate::parts::{body_of, engine_of, fixes_over};
+use crate::judge::{judged_fixes, last_step};
+use crate::parts::{body_of, engine_of};
 use crate::steps::run_engine;
 use box_geo::limits::MAX_STEP;
+use fix_list::FixList;
 use fx_num::Steps;
 use meaning::{Body, Code, Refusal, Settings};
 use outside::Press;
 use std::alloc::Global;
 use std::sync::ledger::Ledger;
 
-/// Runs `n` steps, or up to the step of that number. It is judged before anything is changed: a code leaves the settings as they were.
+/// Runs `n` steps, or up to the step of that number. It is judged before anything is changed: a code, and coefficients that would have to
+/// be mixed, leave the settings as they were.
 ///
 /// # Errors
 ///
-/// `Code` with the code; `Range` with the key and the step of a fault, after which output has the uses of names as sent; `WriteFault`
-/// only where the press failed; `NoMemory`. After these but the first what is in the box is gone.
+/// `Code` with the code; `NotBuilt` where the coefficients of a pair would have to be mixed; `Range` with the key and the step of a fault,
+/// after which output has the uses of names as sent; `WriteFault` only where the press failed; `NoMemory`. After the last three what is in
+/// the box may be gone.
 pub fn run<P: Press, L: Ledger>(
     alloc: Global,
     settings: &mut Settings,
@@ -43,24 +47,29 @@ pub fn run<P: Press, L: Ledger>(
         Some(body) => body,
         None => return Err(Refusal::Code(Code::NoBox)),
     };
-    if let Some(code) = run_code(settings, &body, upto, n) {
-        settings.body = Some(body);
-        return Err(Refusal::Code(code));
-    }
+    let fixes = match judged_fixes(alloc, settings, &body, upto, n) {
+        Ok(fixes) => fixes,
+        Err(why) => {
+            settings.body = Some(body);
+            return Err(why);
+        }
+    };
     let last = last_step(upto, n, body.step);
-    run_ready(alloc, settings, body, last, press, steps)
+    run_ready(alloc, settings, body, &fixes, last, press, steps)
 }
 
-/// Runs a body up to a last step, where nothing refuses it.
+/// Runs a body with its fixes up to a last step, where nothing refuses it.
 fn run_ready<P: Press, L: Ledger>(
     alloc: Global,
     settings: &mut Settings,
     body: Body,
+    fixes: &FixList,
     last: u64,
     press: &mut P,
     steps: &mut Steps<L>,
 ) -> Result<(), Refusal>
     requires sound { IsSound (record settings.old { body = Some body }) }
+    requires fixes { fixes.now ≡ fixes_over settings.old.named.groups body.atoms settings.old.named.fixes }
     requires ahead { body.step ≤ last }
     requires last { last ≤ MAX_STEP }
     requires ready { IsReady settings.old body }
@@ -71,14 +80,6 @@ fn run_ready<P: Press, L: Ledger>(
     ensures kept { Kept (press_alone (P.seen press.old)) (press_alone (P.seen press.new)) }
     ensures stays { Stays result (press_alone (P.seen press.old)) (press_alone (P.seen press.new)) }
 {
-    let fixes = match fixes_over(
-        alloc,
-        body.atoms.as_slice(),
-        settings.named.fixes.as_slice(),
-    ) {
-        Ok(fixes) => fixes,
-        Err(_) => return Err(Refusal::NoMemory),
-    };
     let mut engine = match engine_of(alloc, &settings.force, settings.setup.timestep, body) {
         Ok(engine) => engine,
         Err(_) => return Err(Refusal::NoMemory),
@@ -87,7 +88,7 @@ fn run_ready<P: Press, L: Ledger>(
         alloc,
         &mut settings.output,
         &mut engine,
-        &fixes,
+        fixes,
         last,
         press,
         steps,

@@ -2,7 +2,7 @@
 ghost use Rattle.std.specs.Prelude.{◌≡◌, ◌-◌, ◌<◌, ◌≤◌, IfErr, OnOk};
 ghost use Rattle.meaning.specs.Causes.{Kept, Rests, Stays, press_alone};
 ghost use Rattle.meaning.specs.Runs.{run_from, run_of};
-ghost use Rattle.script_runs.specs.Parts.{Begins, Makes, put_refusal, set_up_part, step_part};
+ghost use Rattle.script_runs.specs.Parts.{Begins, Makes, set_up_part, step_part};
 ghost use Rattle.serial_step.specs.Rebuild.{positions};
 ghost use Rattle.serial_step.specs.Step.{serial_step, set_up};
 ghost use Rattle.step_engine.specs.Engine.{setting_of};
@@ -13,8 +13,8 @@ use crate::lines::{show_due, show_first, show_footer};
 use box_geo::limits::MAX_STEP;
 use fix_list::FixList;
 use fx_num::Steps;
-use meaning::{Output, Refusal};
-use outside::{Press, PutRefusal};
+use meaning::{Output, Refusal, put_refusal};
+use outside::Press;
 use std::alloc::Global;
 use std::sync::ledger::Ledger;
 use step_engine::{Engine, StepEnd};
@@ -169,15 +169,5 @@ fn step_once<P: Press, L: Ledger>(
     match show_due(alloc, columns, output, last, engine, &tally, press) {
         Ok(()) => Ok(()),
         Err(why) => Err(put_refusal(why)),
-    }
-}
-
-/// The refusal of a text that was not put.
-fn put_refusal(why: PutRefusal) -> Refusal
-    ensures { result ≡ put_refusal why }
-{
-    match why {
-        PutRefusal::Faulted => Refusal::WriteFault,
-        PutRefusal::NoMemory => Refusal::NoMemory,
     }
 }

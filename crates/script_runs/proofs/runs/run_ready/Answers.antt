@@ -1,23 +1,18 @@
 use Rattle.std.proofs.Common.{◌≡◌, to_z, of_z, arith}
 use Rattle.std.specs.Int.{w64}
 use Rattle.std.proofs.lemmas.Int.{ints}
-use Rattle.meaning.specs.Fixes.{fixes_over}
 use Rattle.script_runs.proofs.DoesLemmas.{does_done, does_stopped}
 use Rattle.script_runs.proofs.ReadyLemmas.{dim_after, ids_after, makes_meant, settings_after, sound_after}
 use Rattle.script_runs.proofs.TableLemmas.{passed}
 use Rattle.script_runs.proofs.runs.run_ready.Goals as goal
-
-pub fixes_over-requires : goal.fixes_over-requires
-fixes_over-requires g c = rw c.as_slice.ensures c.requires.sound.body.rising
 
 pub returns-in-Err-run_engine-clause-does : goal.returns-in-Err-run_engine-clause-does
 returns-in-Err-run_engine-clause-does g c =
     let s = c.args.settings.now in
     let b = c.args.body in
     let timestep : to_z w64 (of_z w64 s.setup.timestep) ≡ s.setup.timestep = passed s.setup.timestep c.requires.sound.setup.slow (omega (arith, ints, c.requires.sound.setup.quick)) in
-    let fixes : c.in-Ok.fixes ≡ fixes_over b.atoms s.named.fixes = rw (c.as_slice.ensures, c.as_slice-2.ensures) at c.in-Ok.ensures in
     does_stopped c.in-Err-run_engine.why s b _ _ _ _ _ _ _ _
-    (makes_meant s b c.in-Ok-engine_of.engine c.in-Ok.fixes c.args.last _ _ _ _ _ _ _ _ timestep c.in-Ok-engine_of.ensures fixes c.in-Err-run_engine.ensures.makes)
+    (makes_meant s b c.in-Ok.engine c.args.fixes.now c.args.last _ _ _ _ _ _ _ _ timestep c.in-Ok.ensures c.requires.fixes c.in-Err-run_engine.ensures.makes)
     c.in-Err-run_engine.ensures.others
 
 pub returns-in-Err-run_engine-clause-counted : goal.returns-in-Err-run_engine-clause-counted
@@ -25,8 +20,7 @@ returns-in-Err-run_engine-clause-counted g c =
     let s = c.args.settings.now in
     let b = c.args.body in
     let timestep : to_z w64 (of_z w64 s.setup.timestep) ≡ s.setup.timestep = passed s.setup.timestep c.requires.sound.setup.slow (omega (arith, ints, c.requires.sound.setup.quick)) in
-    let fixes : c.in-Ok.fixes ≡ fixes_over b.atoms s.named.fixes = rw (c.as_slice.ensures, c.as_slice-2.ensures) at c.in-Ok.ensures in
-    let made = makes_meant s b c.in-Ok-engine_of.engine c.in-Ok.fixes c.args.last _ _ _ _ _ _ _ _ timestep c.in-Ok-engine_of.ensures fixes c.in-Err-run_engine.ensures.makes in
+    let made = makes_meant s b c.in-Ok.engine c.args.fixes.now c.args.last _ _ _ _ _ _ _ _ timestep c.in-Ok.ensures c.requires.fixes c.in-Err-run_engine.ensures.makes in
     record { few = made.few; exact = tt }
 
 pub returns-clause-does : goal.returns-clause-does
@@ -34,18 +28,16 @@ returns-clause-does g c =
     let s = c.args.settings.now in
     let b = c.args.body in
     let timestep : to_z w64 (of_z w64 s.setup.timestep) ≡ s.setup.timestep = passed s.setup.timestep c.requires.sound.setup.slow (omega (arith, ints, c.requires.sound.setup.quick)) in
-    let fixes : c.in-Ok.fixes ≡ fixes_over b.atoms s.named.fixes = rw (c.as_slice.ensures, c.as_slice-2.ensures) at c.in-Ok.ensures in
     does_done s b _ _ _ _ _ _ _ _
-    (makes_meant s b c.in-Ok-engine_of.engine c.in-Ok.fixes c.args.last _ _ _ _ _ _ _ _ timestep c.in-Ok-engine_of.ensures fixes c.in-Ok-run_engine.ensures.makes)
-    (settings_after s b c.body_of.result c.in-Ok-engine_of.engine c.run_engine.new.engine c.run_engine.new.output _ _ c.in-Ok-engine_of.ensures c.in-Ok-run_engine.ensures.rules c.body_of.ensures c.in-Ok-run_engine.ensures.others)
+    (makes_meant s b c.in-Ok.engine c.args.fixes.now c.args.last _ _ _ _ _ _ _ _ timestep c.in-Ok.ensures c.requires.fixes c.in-Ok-run_engine.ensures.makes)
+    (settings_after s b c.body_of.result c.in-Ok.engine c.run_engine.new.engine c.run_engine.new.output _ _ c.in-Ok.ensures c.in-Ok-run_engine.ensures.rules c.body_of.ensures c.in-Ok-run_engine.ensures.others)
 
 pub returns-clause-counted : goal.returns-clause-counted
 returns-clause-counted g c =
     let s = c.args.settings.now in
     let b = c.args.body in
     let timestep : to_z w64 (of_z w64 s.setup.timestep) ≡ s.setup.timestep = passed s.setup.timestep c.requires.sound.setup.slow (omega (arith, ints, c.requires.sound.setup.quick)) in
-    let fixes : c.in-Ok.fixes ≡ fixes_over b.atoms s.named.fixes = rw (c.as_slice.ensures, c.as_slice-2.ensures) at c.in-Ok.ensures in
-    let made = makes_meant s b c.in-Ok-engine_of.engine c.in-Ok.fixes c.args.last _ _ _ _ _ _ _ _ timestep c.in-Ok-engine_of.ensures fixes c.in-Ok-run_engine.ensures.makes in
+    let made = makes_meant s b c.in-Ok.engine c.args.fixes.now c.args.last _ _ _ _ _ _ _ _ timestep c.in-Ok.ensures c.requires.fixes c.in-Ok-run_engine.ensures.makes in
     record { few = made.few; exact = made.exact }
 
 pub returns-clause-sound : goal.returns-clause-sound
@@ -53,12 +45,11 @@ returns-clause-sound g c =
     let s = c.args.settings.now in
     let b = c.args.body in
     let timestep : to_z w64 (of_z w64 s.setup.timestep) ≡ s.setup.timestep = passed s.setup.timestep c.requires.sound.setup.slow (omega (arith, ints, c.requires.sound.setup.quick)) in
-    let fixes : c.in-Ok.fixes ≡ fixes_over b.atoms s.named.fixes = rw (c.as_slice.ensures, c.as_slice-2.ensures) at c.in-Ok.ensures in
-    let made = makes_meant s b c.in-Ok-engine_of.engine c.in-Ok.fixes c.args.last _ _ _ _ _ _ _ _ timestep c.in-Ok-engine_of.ensures fixes c.in-Ok-run_engine.ensures.makes in
+    let made = makes_meant s b c.in-Ok.engine c.args.fixes.now c.args.last _ _ _ _ _ _ _ _ timestep c.in-Ok.ensures c.requires.fixes c.in-Ok-run_engine.ensures.makes in
     let now = c.run_engine.new.engine in
     record {
       setup = c.requires.sound.setup;
       force = c.requires.sound.force;
-      body = sound_after s b c.body_of.result c.in-Ok-engine_of.engine now _ c.requires.sound.body c.in-Ok-engine_of.ensures c.in-Ok-run_engine.ensures.rules c.in-Ok-run_engine.ensures.ready (ids_after s b c.args.last now.state made.state_is) c.body_of.ensures;
-      dim = dim_after s b c.body_of.result c.in-Ok-engine_of.engine now _ _ c.requires.sound.dim c.in-Ok-engine_of.ensures c.in-Ok-run_engine.ensures.rules c.body_of.ensures;
+      body = sound_after s b c.body_of.result c.in-Ok.engine now _ c.requires.sound.body c.in-Ok.ensures c.in-Ok-run_engine.ensures.rules c.in-Ok-run_engine.ensures.ready (ids_after s b c.args.last now.state made.state_is) c.body_of.ensures;
+      dim = dim_after s b c.body_of.result c.in-Ok.engine now _ _ c.requires.sound.dim c.in-Ok.ensures c.in-Ok-run_engine.ensures.rules c.body_of.ensures;
     }

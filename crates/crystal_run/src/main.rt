@@ -2,8 +2,12 @@
 //! worked out.
 #![tactic(auto)]
 
+ghost use Rattle.external_force.specs.Trap.{back};
+ghost use Rattle.external_force.specs.Views.{IsNear};
+ghost use Rattle.std.specs.Prelude.{◌≡◌};
+
 use disk_real::FileDisk;
-use external_force::{Trap, trap_force};
+use external_force::{ExternalView, Trap, trap_force};
 use outside::OpenGate;
 use outside_real::{FilePress, FileShelf};
 use program::{read_words, run_program};
@@ -21,7 +25,10 @@ fn main(rt: HostRuntime) -> ExitCode {
         &mut press,
         &mut disk,
         &OpenGate,
-        trap_force,
+        |view: &ExternalView| -> [i64; 3]
+            requires { IsNear view.now }
+            ensures { result ≡ back view.now.x }
+        { trap_force(view) },
         &mut rt.stderr(),
     )
 }

@@ -13,6 +13,7 @@ use Rattle.fxlmp_top.specs.declared.words.Misread.TheVariants as words
 use Rattle.fxlmp_top.specs.Serial.{Run}
 use Rattle.fxlmp_top.specs.Words.{Stand}
 use Rattle.session.specs.declared.status.Status.{Status}
+use Rattle.session.specs.Ends.{EndsWith}
 use Rattle.session.specs.declared.status.Status.TheVariants.{DiskFault, NoMemory, ReadFault, ScriptRefused, WriteFault}
 
 -- what the words so far ask for, with what is wanted next, unless a word has no reading
@@ -65,11 +66,7 @@ IsComplete status old run new = (run.status ≡ status) × (new ≡ plus old run
 
 -- all of this in one relation: with the status and all pieces of the run, or with a prefix of them after a fault or without memory
 abbrev pub EndsAs : Status → Option (List Piece) → Run → Option (List Piece) → Type 0
-EndsAs ReadFault old run new = SendsFront old run.pieces new
-EndsAs DiskFault old run new = SendsFront old run.pieces new
-EndsAs NoMemory old run new = SendsFront old run.pieces new
-EndsAs WriteFault old run new = SendsCut old run.pieces new
-EndsAs status old run new = (run.status ≡ status) × (new ≡ plus old run.pieces)
+EndsAs status old run new = EndsWith status old run.pieces run.status new
 
 -- a status blames a device only where its count rose. A file that a shelf missed which tells nothing is told of only where that count rose; not so the
 -- script, at line 0, where it is too long, since its limit is lower than the shelf's.

@@ -29,7 +29,7 @@ stops_silent why.WriteFault meant sent new h = absurd h
 stops_silent why.DiskFault meant sent new h = absurd h
 stops_silent why.NoMemory meant sent new h = SendsFront-none sent meant.pieces
 stops_silent why.NotBuilt meant sent new h =
-    record { way = ap (λ (o : Outcome). o.way) h; sent = sends_nothing meant sent (ap (λ (o : Outcome). o.pieces) h); output = ap (λ (o : Outcome). o.state.output) (sym h) }
+    record { way = ap (λ (o : Outcome). o.way) h; sent = sends_nothing meant sent (ap (λ (o : Outcome). o.pieces) h); state_is = ap (λ (o : Outcome). o.state) (sym h) }
 
 -- a call that sends nothing
 pub changes_executes : (meant : Outcome) (r : Result Unit Refusal) (sent : Option (List Piece)) (new : Settings) → Changes meant r new → Executes meant sent (on_of r) sent new

@@ -8,10 +8,12 @@ use Rattle.command_words.specs.declared.lattice.Creation.{Creation}
 use Rattle.command_words.specs.declared.lattice.LatticeSetting.{LatticeSetting}
 use Rattle.command_words.specs.declared.lattice.NewBox.{NewBox}
 use Rattle.command_words.specs.declared.lattice.NewRegion.{NewRegion}
+use Rattle.command_words.specs.declared.masses_groups.GroupChange.{GroupChange}
 use Rattle.command_words.specs.declared.masses_groups.MassSetting.{MassSetting}
 use Rattle.command_words.specs.declared.pairs.PairCoeff.{PairCoeff}
 use Rattle.command_words.specs.declared.runs.Run.{Run}
 use Rattle.command_words.specs.declared.variables.NewVariable.{NewVariable}
+use Rattle.command_words.specs.declared.velocity.VelocityChange.{VelocityChange}
 use Rattle.meaning.specs.declared.settings.Settings.{Settings}
 use Rattle.meaning.specs.Commands.{outcome_of}
 use Rattle.meaning.specs.Outcome.{silent, unbuilt}
@@ -33,11 +35,13 @@ pub record IsOther (k : Command) : Type 0 where
   pub create_atoms_not : (x : Creation) → k ≡ command.CreateAtoms x → ⊥
   pub read_data_not : (x : List ℕ) → k ≡ command.ReadData x → ⊥
   pub mass_not : (x : MassSetting) → k ≡ command.Mass x → ⊥
+  pub group_not : (x : GroupChange) → k ≡ command.Group x → ⊥
   pub pair_style_not : (x : ℤ) → k ≡ command.PairStyle x → ⊥
   pub pair_coeff_not : (x : PairCoeff) → k ≡ command.PairCoeff x → ⊥
   pub neighbor_not : (x : ℤ) → k ≡ command.Neighbor x → ⊥
   pub neigh_modify_not : k ≡ command.NeighModify → ⊥
   pub comm_modify_not : (x : ℤ) → k ≡ command.CommModify x → ⊥
+  pub velocity_not : (x : VelocityChange) → k ≡ command.Velocity x → ⊥
   pub fix_not : (x : NewFix) → k ≡ command.Fix x → ⊥
   pub unfix_not : (x : List ℕ) → k ≡ command.Unfix x → ⊥
   pub thermo_not : (x : ℕ) → k ≡ command.Thermo x → ⊥
@@ -70,7 +74,7 @@ others_unbuilt files (command.Restart x) s h = refl
 others_unbuilt files (command.WriteRestart x) s h = refl
 others_unbuilt files (command.ReadRestart x) s h = refl
 others_unbuilt files (command.Mass x) s h = absurd (h.mass_not x refl)
-others_unbuilt files (command.Group x) s h = refl
+others_unbuilt files (command.Group x) s h = absurd (h.group_not x refl)
 others_unbuilt files (command.PairStyle x) s h = absurd (h.pair_style_not x refl)
 others_unbuilt files (command.PairCoeff x) s h = absurd (h.pair_coeff_not x refl)
 others_unbuilt files (command.PairModify x) s h = refl
@@ -82,7 +86,7 @@ others_unbuilt files (command.AngleCoeff x) s h = refl
 others_unbuilt files (command.Neighbor x) s h = absurd (h.neighbor_not x refl)
 others_unbuilt files command.NeighModify s h = absurd (h.neigh_modify_not refl)
 others_unbuilt files (command.CommModify x) s h = absurd (h.comm_modify_not x refl)
-others_unbuilt files (command.Velocity x) s h = refl
+others_unbuilt files (command.Velocity x) s h = absurd (h.velocity_not x refl)
 others_unbuilt files (command.Fix x) s h = absurd (h.fix_not x refl)
 others_unbuilt files (command.Unfix x) s h = absurd (h.unfix_not x refl)
 others_unbuilt files (command.Compute x) s h = refl

@@ -104,7 +104,9 @@ stop_ends (why.Code code) o file line next s state mid mid2 new h e =
     let by : EndsBy (refuses code) o mid mid2 s = record { way = h.way; sent = h.sent; output = ap (λ (t : Settings). t.output) h.state_is } in
     told_ends o (refuses code) file line next s state new by e (ap (λ (t : Settings). refused_line t.output file line code) h.state_is)
 stop_ends (why.Range key step) o file line next s state mid mid2 new h e = told_ends o (fails key step) file line next s state new h e (ap (λ (u : Output). ends_telling u (fault_text key step) (failed_at key step)) h.output)
-stop_ends why.NotBuilt o file line next s state mid mid2 new h e = told_ends o unbuilt file line next s state new h e refl
+stop_ends why.NotBuilt o file line next s state mid mid2 new h e =
+    let by : EndsBy unbuilt o mid mid2 s = record { way = h.way; sent = h.sent; output = ap (λ (t : Settings). t.output) h.state_is } in
+    told_ends o unbuilt file line next s state new by e refl
 stop_ends why.ReadFault o file line next s state mid mid2 new h e =
     subst (λ (t : Status). EndsAs t mid (played_after o file line next) new) (sym e.0)
     (subst (λ (q : Option (List Piece)). SendsFront mid (played_after o file line next).pieces q) (sym e.1) (SendsFront-more (goes_by o.way o.state file line next).pieces h))

@@ -31,13 +31,17 @@ status_of (refused_at code file line) = ScriptRefused code file line
 status_of (failed_at key step) = RangeFault key step
 status_of (unbuilt_at file line) = NotBuilt file line
 
--- a call that is to play a script ends so: with its status and all its pieces, or with a prefix of them after a fault or without memory
+-- a call that is to send pieces and to answer a status ends so: with that status and all pieces, or with a prefix of them after a fault or without memory
+abbrev pub EndsWith : Status → Option (List Piece) → List Piece → Status → Option (List Piece) → Type 0
+EndsWith ReadFault old pieces meant new = SendsFront old pieces new
+EndsWith DiskFault old pieces meant new = SendsFront old pieces new
+EndsWith NoMemory old pieces meant new = SendsFront old pieces new
+EndsWith WriteFault old pieces meant new = SendsCut old pieces new
+EndsWith status old pieces meant new = (meant ≡ status) × (new ≡ plus old pieces)
+
+-- so does a call that is to play a script
 abbrev pub EndsAs : Status → Option (List Piece) → Played → Option (List Piece) → Type 0
-EndsAs ReadFault old meant new = SendsFront old meant.pieces new
-EndsAs DiskFault old meant new = SendsFront old meant.pieces new
-EndsAs NoMemory old meant new = SendsFront old meant.pieces new
-EndsAs WriteFault old meant new = SendsCut old meant.pieces new
-EndsAs status old meant new = (status_of meant.end ≡ status) × (new ≡ plus old meant.pieces)
+EndsAs status old meant new = EndsWith status old meant.pieces (status_of meant.end) new
 
 -- how a script ends at a line whose command was not carried out: behind the line of the error; after a fault or without memory at once
 abbrev pub EndsLine : Refusal → Output → List ℕ → ℕ → Status → Option (List Piece) → Option (List Piece) → Type 0

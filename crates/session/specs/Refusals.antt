@@ -11,8 +11,6 @@ use Rattle.meaning.specs.declared.refusal.SettingsRefusal.{SettingsRefusal}
 use Rattle.meaning.specs.declared.refusal.SettingsRefusal.TheVariants as settings
 use Rattle.meaning.specs.Lines.{word_code}
 use Rattle.meaning.specs.Variables.{expand_code}
-use Rattle.outside.specs.declared.press.PutRefusal.{PutRefusal}
-use Rattle.outside.specs.declared.press.PutRefusal.TheVariants as put
 use Rattle.script_lines.specs.declared.refusals.ExpandRefusal.{ExpandRefusal}
 use Rattle.script_lines.specs.declared.refusals.ExpandRefusal.TheVariants as expand
 
@@ -26,11 +24,6 @@ expand_refusal (expand.Inner fault) = settings.Code (expand_code (expand.Inner f
 abbrev pub widened : SettingsRefusal → Refusal
 widened (settings.Code code) = refusal.Code code
 widened settings.NoMemory = refusal.NoMemory
-
--- of a text that was not put
-abbrev pub put_refusal : PutRefusal → Refusal
-put_refusal put.Faulted = refusal.WriteFault
-put_refusal put.NoMemory = refusal.NoMemory
 
 -- what a command answers that does not quit
 abbrev pub on_of : Result Unit Refusal → Result Going Refusal

@@ -1,9 +1,8 @@
 //! Answers of the parts of a script as refusals of a command.
-ghost use Rattle.session.specs.Refusals.{changed_of, coded_of, on_of, put_refusal, widened};
+ghost use Rattle.session.specs.Refusals.{changed_of, coded_of, on_of, widened};
 ghost use Rattle.std.specs.Prelude.{◌≡◌};
 
 use meaning::{Code, Going, Refusal, SettingsRefusal};
-use outside::PutRefusal;
 
 /// Of a command that changes settings alone.
 pub(crate) fn widened(why: SettingsRefusal) -> Refusal
@@ -12,16 +11,6 @@ pub(crate) fn widened(why: SettingsRefusal) -> Refusal
     match why {
         SettingsRefusal::Code(code) => Refusal::Code(code),
         SettingsRefusal::NoMemory => Refusal::NoMemory,
-    }
-}
-
-/// Of a text that was not put.
-pub(crate) fn put_refusal(why: PutRefusal) -> Refusal
-    ensures { result ≡ put_refusal why }
-{
-    match why {
-        PutRefusal::Faulted => Refusal::WriteFault,
-        PutRefusal::NoMemory => Refusal::NoMemory,
     }
 }
 

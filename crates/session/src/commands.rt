@@ -1,6 +1,6 @@
 //! Each command by its function.
 ghost use Rattle.meaning.specs.Causes.{Counted, Kept, Rests, Stays, nothing_lent, seen_of};
-ghost use Rattle.meaning.specs.Commands.{atoms_of_style, fix_of, outcome_of};
+ghost use Rattle.meaning.specs.Commands.{atoms_of_style, fix_of, group_of, outcome_of};
 ghost use Rattle.command_words.specs.Limits.{KeepsLimits};
 ghost use Rattle.meaning.specs.Sends.{Changes, Executes};
 ghost use Rattle.meaning.specs.Sound.{IsSound};
@@ -13,16 +13,17 @@ use crate::session::clear;
 use crate::system_files::read_data;
 use crate::variables::set_variable;
 use box_geo::AtomStyle;
-use command_words::{Command, FixStyle, NewFix};
+use command_words::{Command, FixStyle, GroupChange, Members, NewFix};
 use disk_outside::Disk;
 use external_force::{Callback, External, ExternalView, PullRule};
 use fx_num::Steps;
 use meaning::{Going, Refusal, Settings};
 use outside::{Gate, Press, Shelf};
 use run_settings::{
-    add_fix, add_region, create_atoms, create_box, remove_fix, reset_timestep, set_atom_style,
-    set_boundary, set_comm_cutoff, set_dimension, set_lattice, set_masses, set_pair_coefficients,
-    set_pair_style, set_processors, set_skin, set_thermo, set_timestep,
+    add_fix, add_region, change_group, change_velocities, create_atoms, create_box, remove_fix,
+    reset_timestep, set_atom_style, set_boundary, set_comm_cutoff, set_dimension, set_lattice,
+    set_masses, set_pair_coefficients, set_pair_style, set_processors, set_skin, set_thermo,
+    set_timestep,
 };
 use script_runs::run;
 use std::alloc::Global;
@@ -81,6 +82,7 @@ pub fn execute<
         Command::CreateAtoms(new) => changed(create_atoms(settings, alloc, &new)),
         Command::ReadData(name) => on_of(read_data(alloc, settings, &name, shelf)),
         Command::Mass(mass) => changed(set_masses(settings, alloc, &mass)),
+        Command::Group(change) => on_of(set_group(alloc, settings, change)),
         Command::PairStyle(cutoff) => decided(set_pair_style(settings, cutoff)),
         Command::PairCoeff(pair) => changed(set_pair_coefficients(settings, alloc, &pair)),
         Command::Neighbor(skin) => {
@@ -91,6 +93,7 @@ pub fn execute<
             set_comm_cutoff(settings, cutoff);
             Ok(Going::On)
         }
+        Command::Velocity(change) => changed(change_velocities(settings, alloc, &change)),
         Command::Fix(fix) => on_of(set_fix(settings, fix)),
         Command::Unfix(id) => decided(remove_fix(settings, &id)),
         Command::Thermo(every) => {
@@ -127,6 +130,22 @@ fn set_style(settings: &mut Settings, style: AtomStyle) -> Result<(), Refusal>
     match set_atom_style(settings, AtomStyle::Atomic) {
         Ok(()) => Ok(()),
         Err(code) => Err(Refusal::Code(code)),
+    }
+}
+
+/// `group`; by the values of a variable it is not built yet.
+fn set_group(alloc: Global, settings: &mut Settings, change: GroupChange) -> Result<(), Refusal>
+    requires sound { IsSound settings.old }
+    ensures changes { Changes (group_of change.members change settings.old) result settings.new }
+    ensures sound { OnOk result (IsSound settings.new) }
+    ensures cause { IfErr result (λ why. Rests why nothing_lent nothing_lent) }
+{
+    if let Members::Variable(_) = change.members {
+        return Err(Refusal::NotBuilt);
+    }
+    match change_group(settings, alloc, change) {
+        Ok(()) => Ok(()),
+        Err(why) => Err(widened(why)),
     }
 }
 

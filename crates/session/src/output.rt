@@ -7,10 +7,10 @@ ghost use Rattle.meaning.specs.Sound.{IsSound};
 ghost use Rattle.meaning.specs.Variables.{text_of};
 ghost use Rattle.std.specs.Prelude.{◌≡◌, IfErr, IfOk, OnOk};
 
-use crate::answers::{put_refusal, widened};
+use crate::answers::widened;
 use crate::texts::text_of;
 use fx_num::{NoMemory, Text};
-use meaning::{Refusal, Settings, SettingsRefusal, UseKind};
+use meaning::{Refusal, Settings, SettingsRefusal, UseKind, put_refusal};
 use outside::Press;
 use script_runs::show;
 use std::alloc::Global;

@@ -10,7 +10,7 @@ use box_geo::AtomStyle;
 use box_geo::limits::{DEFAULT_SKIN, DEFAULT_TIMESTEP};
 use fx_num::NoMemory;
 use meaning::{FixSettings, Force, Named, Output, PairSettings, Refusal, Settings, Setup};
-use regions_groups::Regions;
+use regions_groups::{Groups, Regions};
 use std::alloc::Global;
 use var_table::Vars;
 
@@ -46,6 +46,7 @@ fn first_named(alloc: Global) -> Result<Named, NoMemory>
 {
     Ok(Named {
         regions: Regions::new(alloc)?,
+        groups: Groups::new(alloc)?,
         fixes: FixSettings::new(alloc),
     })
 }

@@ -2,7 +2,7 @@ use Rattle.std.proofs.Common.{List, Err, ap, arith, rules}
 use Rattle.std.specs.Int.{w64}
 use Rattle.std.specs.Int.RustNames.{FitsSigned}
 use Rattle.std.proofs.lemmas.Int.{to_z-of_z}
-use Rattle.meaning.specs.Commands.{atoms_of_style, fix_of, outcome_of}
+use Rattle.meaning.specs.Commands.{atoms_of_style, fix_of, group_of, outcome_of}
 use Rattle.meaning.specs.Lattice.{create_atoms, create_box, region}
 use Rattle.meaning.specs.MassesGroups.{mass}
 use Rattle.meaning.specs.Outcome.{Outcome, done}
@@ -11,6 +11,7 @@ use Rattle.meaning.specs.Pairs.{pair_coeff, pair_style}
 use Rattle.meaning.specs.Session.{clear}
 use Rattle.meaning.specs.SystemFiles.{read_data}
 use Rattle.meaning.specs.Variables.{variable}
+use Rattle.meaning.specs.Velocity.{velocity}
 use Rattle.outside.specs.declared.files.File.{File}
 use Rattle.meaning.specs.declared.refusal.Refusal.TheVariants.{NotBuilt}
 use Rattle.session.proofs.OtherLemmas.{IsOther, others_unbuilt}
@@ -44,6 +45,12 @@ returns-in-PairCoeff-clause-does g c = λ (files : List File) told. rw (c.in-Pai
 pub returns-in-Fix-clause-does : goal.returns-in-Fix-clause-does
 returns-in-Fix-clause-does g c = λ (files : List File) told. rw (c.in-Fix.is, c.on_of-in-Fix.ensures) (changes_executes (fix_of c.in-Fix.fix.style c.in-Fix.fix c.args.settings.now) c.set_fix.result (g.P.Press.seen c.args.press.now).sent c.set_fix.new.settings c.set_fix.ensures.changes)
 
+pub returns-in-Group-clause-does : goal.returns-in-Group-clause-does
+returns-in-Group-clause-does g c = λ (files : List File) told. rw (c.in-Group.is, c.on_of-in-Group.ensures) (changes_executes (group_of c.in-Group.change.members c.in-Group.change c.args.settings.now) c.set_group.result (g.P.Press.seen c.args.press.now).sent c.set_group.new.settings c.set_group.ensures.changes)
+
+pub returns-in-Velocity-clause-does : goal.returns-in-Velocity-clause-does
+returns-in-Velocity-clause-does g c = λ (files : List File) told. rw (c.in-Velocity.is, c.changed-in-Velocity.ensures) (answers_executes c.args.settings.now c.change_velocities.new.settings (velocity c.in-Velocity.change c.args.settings.now) c.change_velocities.result (g.P.Press.seen c.args.press.now).sent c.change_velocities.ensures.is)
+
 pub returns-in-Log-clause-does : goal.returns-in-Log-clause-does
 returns-in-Log-clause-does g c = λ (files : List File) told. rw (c.in-Log.is, c.changed-in-Log.ensures) (answers_executes c.args.settings.now c.set_log.new.settings (log c.in-Log.name c.args.settings.now) c.set_log.result (g.P.Press.seen c.args.press.now).sent c.set_log.ensures.answers)
 
@@ -59,12 +66,12 @@ returns-in-Clear-clause-does g c = λ (files : List File) told. rw (c.in-Clear.i
 pub returns-clause-does : goal.returns-clause-does
 returns-clause-does g c =
     λ (files : List File) told.
-    let other : IsOther c.args.command = record { units_not = c.in_default.not-Units; dimension_not = c.in_default.not-Dimension; boundary_not = c.in_default.not-Boundary; atom_style_not = c.in_default.not-AtomStyle; processors_not = c.in_default.not-Processors; newton_not = c.in_default.not-Newton; atom_modify_not = c.in_default.not-AtomModify; echo_not = c.in_default.not-Echo; lattice_not = c.in_default.not-Lattice; region_not = c.in_default.not-Region; create_box_not = c.in_default.not-CreateBox; create_atoms_not = c.in_default.not-CreateAtoms; read_data_not = c.in_default.not-ReadData; mass_not = c.in_default.not-Mass; pair_style_not = c.in_default.not-PairStyle; pair_coeff_not = c.in_default.not-PairCoeff; neighbor_not = c.in_default.not-Neighbor; neigh_modify_not = c.in_default.not-NeighModify; comm_modify_not = c.in_default.not-CommModify; fix_not = c.in_default.not-Fix; unfix_not = c.in_default.not-Unfix; thermo_not = c.in_default.not-Thermo; run_not = c.in_default.not-Run; timestep_not = c.in_default.not-Timestep; reset_timestep_not = c.in_default.not-ResetTimestep; print_not = c.in_default.not-Print; log_not = c.in_default.not-Log; variable_not = c.in_default.not-Variable; clear_not = c.in_default.not-Clear; quit_not = c.in_default.not-Quit } in
+    let other : IsOther c.args.command = record { units_not = c.in_default.not-Units; dimension_not = c.in_default.not-Dimension; boundary_not = c.in_default.not-Boundary; atom_style_not = c.in_default.not-AtomStyle; processors_not = c.in_default.not-Processors; newton_not = c.in_default.not-Newton; atom_modify_not = c.in_default.not-AtomModify; echo_not = c.in_default.not-Echo; lattice_not = c.in_default.not-Lattice; region_not = c.in_default.not-Region; create_box_not = c.in_default.not-CreateBox; create_atoms_not = c.in_default.not-CreateAtoms; read_data_not = c.in_default.not-ReadData; mass_not = c.in_default.not-Mass; group_not = c.in_default.not-Group; pair_style_not = c.in_default.not-PairStyle; pair_coeff_not = c.in_default.not-PairCoeff; neighbor_not = c.in_default.not-Neighbor; neigh_modify_not = c.in_default.not-NeighModify; comm_modify_not = c.in_default.not-CommModify; velocity_not = c.in_default.not-Velocity; fix_not = c.in_default.not-Fix; unfix_not = c.in_default.not-Unfix; thermo_not = c.in_default.not-Thermo; run_not = c.in_default.not-Run; timestep_not = c.in_default.not-Timestep; reset_timestep_not = c.in_default.not-ResetTimestep; print_not = c.in_default.not-Print; log_not = c.in_default.not-Log; variable_not = c.in_default.not-Variable; clear_not = c.in_default.not-Clear; quit_not = c.in_default.not-Quit } in
     changes_executes (outcome_of files c.args.command c.args.settings.now) (Err NotBuilt) (g.P.Press.seen c.args.press.now).sent c.args.settings.now (others_unbuilt files c.args.command c.args.settings.now other)
 
 pub returns-clause-counted : goal.returns-clause-counted
 returns-clause-counted g c =
     λ (files : List File) told.
-    let other : IsOther c.args.command = record { units_not = c.in_default.not-Units; dimension_not = c.in_default.not-Dimension; boundary_not = c.in_default.not-Boundary; atom_style_not = c.in_default.not-AtomStyle; processors_not = c.in_default.not-Processors; newton_not = c.in_default.not-Newton; atom_modify_not = c.in_default.not-AtomModify; echo_not = c.in_default.not-Echo; lattice_not = c.in_default.not-Lattice; region_not = c.in_default.not-Region; create_box_not = c.in_default.not-CreateBox; create_atoms_not = c.in_default.not-CreateAtoms; read_data_not = c.in_default.not-ReadData; mass_not = c.in_default.not-Mass; pair_style_not = c.in_default.not-PairStyle; pair_coeff_not = c.in_default.not-PairCoeff; neighbor_not = c.in_default.not-Neighbor; neigh_modify_not = c.in_default.not-NeighModify; comm_modify_not = c.in_default.not-CommModify; fix_not = c.in_default.not-Fix; unfix_not = c.in_default.not-Unfix; thermo_not = c.in_default.not-Thermo; run_not = c.in_default.not-Run; timestep_not = c.in_default.not-Timestep; reset_timestep_not = c.in_default.not-ResetTimestep; print_not = c.in_default.not-Print; log_not = c.in_default.not-Log; variable_not = c.in_default.not-Variable; clear_not = c.in_default.not-Clear; quit_not = c.in_default.not-Quit } in
+    let other : IsOther c.args.command = record { units_not = c.in_default.not-Units; dimension_not = c.in_default.not-Dimension; boundary_not = c.in_default.not-Boundary; atom_style_not = c.in_default.not-AtomStyle; processors_not = c.in_default.not-Processors; newton_not = c.in_default.not-Newton; atom_modify_not = c.in_default.not-AtomModify; echo_not = c.in_default.not-Echo; lattice_not = c.in_default.not-Lattice; region_not = c.in_default.not-Region; create_box_not = c.in_default.not-CreateBox; create_atoms_not = c.in_default.not-CreateAtoms; read_data_not = c.in_default.not-ReadData; mass_not = c.in_default.not-Mass; group_not = c.in_default.not-Group; pair_style_not = c.in_default.not-PairStyle; pair_coeff_not = c.in_default.not-PairCoeff; neighbor_not = c.in_default.not-Neighbor; neigh_modify_not = c.in_default.not-NeighModify; comm_modify_not = c.in_default.not-CommModify; velocity_not = c.in_default.not-Velocity; fix_not = c.in_default.not-Fix; unfix_not = c.in_default.not-Unfix; thermo_not = c.in_default.not-Thermo; run_not = c.in_default.not-Run; timestep_not = c.in_default.not-Timestep; reset_timestep_not = c.in_default.not-ResetTimestep; print_not = c.in_default.not-Print; log_not = c.in_default.not-Log; variable_not = c.in_default.not-Variable; clear_not = c.in_default.not-Clear; quit_not = c.in_default.not-Quit } in
     let none = ap (λ (o : Outcome). o.pairs) (others_unbuilt files c.args.command c.args.settings.now other) in
     record { few = omega (arith, none); exact = tt }

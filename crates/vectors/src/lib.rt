@@ -8,6 +8,8 @@
 #[cfg(test)]
 mod failing;
 #[cfg(test)]
+mod groups;
+#[cfg(test)]
 mod logs;
 #[cfg(test)]
 mod programs;

@@ -1,5 +1,7 @@
 //! Scripts and data files of few atoms, the program run over a shelf and a press, and what it sends.
 ghost use Rattle.external_force.specs.Callbacks.{Keeps};
+ghost use Rattle.external_force.specs.Trap.{back};
+ghost use Rattle.external_force.specs.Views.{IsNear};
 ghost use Rattle.std.specs.Prelude.{◌≡◌, ◌<◌};
 
 use disk_outside::SureDisk;
@@ -94,6 +96,14 @@ pub(crate) fn texts_of(alloc: Global, words: &[&str]) -> Result<Seq<Text>, NoMem
     Ok(texts)
 }
 
+/// The force of the program's rule.
+fn trap(view: &ExternalView) -> [i64; 3]
+    requires { IsNear view.now }
+    ensures { result ≡ back view.now.x }
+{
+    trap_force(view)
+}
+
 /// Runs the words over a shelf and a press, counting on this blank's ledger.
 fn run_counted<
     T: Threads + Sync,
@@ -139,7 +149,7 @@ pub(crate) fn run_over<T: Threads + Sync + AllocGlobal, S: Shelf, P: Press>(
         words,
         shelf,
         press,
-        trap_force,
+        trap,
         Blank::new(1),
     ))
 }
@@ -191,7 +201,7 @@ pub(crate) fn run_over_files<T: Abort + AllocGlobal + Threads + Sync>(
         words,
         &mut shelf,
         &mut press,
-        trap_force,
+        trap,
         Blank::new(1),
     );
     Ok((status, press))

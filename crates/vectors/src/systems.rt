@@ -172,3 +172,18 @@ fn systems_that_cannot_be_made_are_told_by_their_code(rt: HostRuntime) -> Result
     }
     Ok(())
 }
+
+#[test]
+fn a_section_of_coefficients_needs_its_style(rt: HostRuntime) -> Result<(), Fail> {
+    for section in ["Pair", "Bond", "Angle"] {
+        let lines = if section == "Pair" { "\n1 1 1\n" } else { "" };
+        let data = format!(in rt.alloc();
+            "no style\n\n0 atoms\n1 atom types\n0 10 xlo xhi\n0 10 ylo yhi\n0 10 zlo zhi\n\n{section} Coeffs\n{lines}"
+        )?;
+        let error = b"ERROR: DataLine at in.two:1\n".as_slice();
+        let script = "read_data data.two\n";
+        let status = check_log(&rt, script, data.as_str(), &[error], section)?;
+        check_code(&rt, &status, Code::DataLine, 1, section);
+    }
+    Ok(())
+}

@@ -1,7 +1,7 @@
 //! The whole program over objects in memory: the number that it exits with, and what it says where.
 use crate::setting::*;
 use disk_outside::SureDisk;
-use external_force::{Trap, trap_force};
+use external_force::Trap;
 use outside::{Cut, Cuts, MemPress, OpenGate, Press, SurePress, SureShelf};
 use program::{Unread, read_words, run_program};
 use std::env::FillError;
@@ -50,7 +50,7 @@ fn exit_over<T: Abort + AllocGlobal + Threads + Sync>(
         press,
         &mut disk,
         &OpenGate,
-        trap_force,
+        trap,
         &mut errors,
     );
     Ok((code, errors))

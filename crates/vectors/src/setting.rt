@@ -97,7 +97,7 @@ pub(crate) fn texts_of(alloc: Global, words: &[&str]) -> Result<Seq<Text>, NoMem
 }
 
 /// The force of the program's rule.
-fn trap(view: &ExternalView) -> [i64; 3]
+pub(crate) fn trap(view: &ExternalView) -> [i64; 3]
     requires { IsNear view.now }
     ensures { result ≡ back view.now.x }
 {

@@ -1,0 +1,4 @@
+mod HeaderLemmas
+mod RowLemmas
+mod SectionLemmas
+mod Worked

@@ -1,0 +1,11 @@
+use Rattle.std.proofs.Common.{◌∙◌}
+use Rattle.data_text.specs.DataText.{bond_row}
+use Rattle.data_text.proofs.RowLemmas.{numbered_end, numbered_more}
+use Rattle.data_text.proofs.rows.push_bond_rows.Goals as goal
+
+pub loop-place-preserved : goal.loop-place-preserved
+loop-place-preserved c =
+    numbered_more bond_row c.args.bonds.now c.loop-place.place _ c.loop-place.text c.push_bond.new.text c.loop-place-test.true c.in_ok-push_bond.ensures ∙ c.loop-place.invariant
+
+pub returns : goal.returns
+returns c = numbered_end bond_row c.args.bonds.now c.loop-place.place c.loop-place.text _ c.loop-place-test.false c.loop-place.invariant

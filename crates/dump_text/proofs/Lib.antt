@@ -1,0 +1,7 @@
+mod ColumnLemmas
+mod FrameLemmas
+mod HeaderLemmas
+mod MemberLemmas
+mod RowLemmas
+mod WalkLemmas
+mod Worked

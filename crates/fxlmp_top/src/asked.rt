@@ -11,6 +11,20 @@ pub struct ScriptName {
     pub name: Text,
 }
 
+/// The script that is run.
+#[derive(Drop)]
+pub enum Source {
+    /// That of a file.
+    File(ScriptName),
+    /// The generated one.
+    Generated {
+        /// How many lattice cells there are along an edge.
+        cells: u32,
+        /// The seed of the velocities.
+        seed: u32,
+    },
+}
+
 /// Where the log goes.
 #[derive(Drop)]
 pub enum LogChoice {
@@ -35,7 +49,7 @@ pub struct Definition {
 #[derive(Drop)]
 pub struct Asked {
     /// The script.
-    pub script: Option<ScriptName>,
+    pub script: Option<Source>,
     /// Where the log goes.
     pub log: LogChoice,
     /// Whether the log goes to the screen too.
@@ -51,6 +65,10 @@ pub enum Wanted {
     Flag,
     /// The script's name.
     Script,
+    /// How many lattice cells the generated script has along an edge.
+    Cells,
+    /// The seed of the generated script, which has so many lattice cells along an edge.
+    Seed(u32),
     /// The log's name, or `none`.
     Log,
     /// `none`.

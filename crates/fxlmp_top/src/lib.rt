@@ -7,7 +7,7 @@ mod start;
 mod top;
 mod words;
 
-pub use asked::{Asked, Definition, LogChoice, ScriptName, Wanted};
+pub use asked::{Asked, Definition, LogChoice, ScriptName, Source, Wanted};
 pub use meaning::Code;
 pub use session::Status;
 pub use top::{run_surely, run_words};

@@ -23,7 +23,7 @@ fn log_of(alloc: Global, log: &LogChoice) -> Result<Option<Text>, NoMemory>
     }
 }
 
-/// The first uses of names: the screen, the log, and the script.
+/// The first uses of names: the screen, the log, and the script, unless its name has another use.
 fn first_uses(alloc: Global, log: &Option<Text>, script: &Text) -> Result<Uses, NoMemory>
     ensures { IfOk result (λ uses. uses ≡ first_uses log.now script.now) }
 {
@@ -32,7 +32,9 @@ fn first_uses(alloc: Global, log: &Option<Text>, script: &Text) -> Result<Uses, 
     if let Some(log) = log {
         uses.push(log.copy(alloc)?, UseKind::Put)?;
     }
-    uses.push(script.copy(alloc)?, UseKind::Fetched)?;
+    if uses.kind_of(script).is_none() {
+        uses.push(script.copy(alloc)?, UseKind::Fetched)?;
+    }
     Ok(uses)
 }
 

@@ -1,24 +1,26 @@
 //! The top call.
 ghost use Rattle.fxlmp_top.specs.Ends.{EndsAs, HasCause, IsComplete, IsSerialStatus, SendsAll, SendsPart};
-ghost use Rattle.fxlmp_top.specs.Serial.{first_settings, played_text, serial};
+ghost use Rattle.fxlmp_top.specs.Serial.{name_of, played_source, serial, text_of};
 ghost use Rattle.fxlmp_top.specs.Words.{asked};
 ghost use Rattle.meaning.specs.Answers.{is_absence};
 ghost use Rattle.meaning.specs.Causes.{Kept, shelf_alone, seen_of};
 ghost use Rattle.meaning.specs.SystemFiles.{within};
+ghost use Rattle.run_gen.specs.Script.{script_text};
 ghost use Rattle.outside.specs.declared.files.File.{File};
 ghost use Rattle.outside.specs.Stock.{content, Rose};
 ghost use Rattle.session.specs.Ends.{EndsAs as Plays, GetsFile, StatusCounted, StatusStays};
 ghost use Rattle.std.specs.Prelude.{◌≡◌, ◌<◌, ◌≤◌, ◌⊎◌, ◌+◌, ℕ, List, Some, Err, length, IfNone, IfOk, IsErrOf, IsTrue};
 
-use crate::asked::Asked;
+use crate::asked::{Asked, Source};
 use crate::start::first_settings;
 use crate::words::{Misread, asked};
 use box_geo::limits::MAX_SCRIPT_BYTES;
 use disk_outside::{Disk, SureDisk};
 use external_force::{Callback, External, ExternalView, PullRule};
-use fx_num::{Steps, Text};
+use fx_num::{NoMemory, Steps, Text};
 use meaning::{Code, Refusal};
 use outside::{Gate, Press, Shelf, SurePress, SureShelf};
+use run_gen::script;
 use session::{Status, fetch, play, refuse};
 use std::alloc::Global;
 use std::sync::ledger::Ledger;
@@ -38,7 +40,7 @@ fn short_enough(text: Text) -> Result<Text, Refusal>
     }
 }
 
-/// The script's text.
+/// The text of the script's file.
 fn fetch_script<S: Shelf>(alloc: Global, shelf: &mut S, name: &Text) -> Result<Text, Refusal>
     ensures told { (files : List File) → (S.seen shelf.old).stock ≡ Some files → GetsFile (within MAX_SCRIPT_BYTES (content files name.now)) result }
     ensures short { IfOk result (λ text. length text ≤ MAX_SCRIPT_BYTES) }
@@ -53,8 +55,49 @@ fn fetch_script<S: Shelf>(alloc: Global, shelf: &mut S, name: &Text) -> Result<T
     }
 }
 
-/// Plays the script of this name.
-fn run_named<
+/// The generated script.
+fn generate(alloc: Global, cells: u32, seed: u32) -> Result<Text, Refusal>
+    ensures is { GetsFile (Ok (script_text cells seed)) result }
+    ensures short { IfOk result (λ text. length text ≤ MAX_SCRIPT_BYTES) }
+    ensures no_code { (code : Code) → IsErrOf result (Refusal.Code code) → ⊥ }
+    ensures no_fault { IsErrOf result Refusal.ReadFault → ⊥ }
+{
+    match script(alloc, cells, seed) {
+        Ok(text) => Ok(text),
+        Err(_) => Err(Refusal::NoMemory),
+    }
+}
+
+/// The script's text.
+fn text_of<S: Shelf>(alloc: Global, shelf: &mut S, source: &Source) -> Result<Text, Refusal>
+    ensures told { (files : List File) → (S.seen shelf.old).stock ≡ Some files → GetsFile (text_of files source.now) result }
+    ensures short { IfOk result (λ text. length text ≤ MAX_SCRIPT_BYTES) }
+    ensures absent { (code : Code) → IsErrOf result (Refusal.Code code) → IsTrue (is_absence code) → (code ≡ Code.FileTooLong → ⊥) → IfNone (S.seen shelf.old).stock (Rose (S.seen shelf.old).absent (S.seen shelf.new).absent) }
+    ensures read { IsErrOf result Refusal.ReadFault → Rose (S.seen shelf.old).faults (S.seen shelf.new).faults }
+    ensures kept { Kept (shelf_alone (S.seen shelf.old)) (shelf_alone (S.seen shelf.new)) }
+    ensures faults_stay { (IsErrOf result Refusal.ReadFault → ⊥) → (S.seen shelf.new).faults ≡ (S.seen shelf.old).faults }
+{
+    match source {
+        Source::File(script) => fetch_script(alloc, shelf, &script.name),
+        Source::Generated { cells, seed } => generate(alloc, *cells, *seed),
+    }
+}
+
+/// The name under which the generated script is run.
+const GENERATED_NAME: &[u8] = b"gen";
+
+/// The script's name.
+fn name_of(alloc: Global, source: &Source) -> Result<Text, NoMemory>
+    ensures { IfOk result (λ name. name ≡ name_of source.now) }
+{
+    match source {
+        Source::File(script) => script.name.copy(alloc),
+        Source::Generated { .. } => Text::from_bytes(alloc, GENERATED_NAME),
+    }
+}
+
+/// Plays a script.
+fn run_source<
     T: Threads + Sync,
     S: Shelf,
     P: Press,
@@ -67,7 +110,7 @@ fn run_named<
     rt: &T,
     alloc: Global,
     asked: &Asked,
-    name: &Text,
+    source: &Source,
     shelf: &mut S,
     press: &mut P,
     disk: &mut D,
@@ -75,22 +118,26 @@ fn run_named<
     external: &External<F, R>,
     steps: &mut Steps<L>,
 ) -> Status
-    ensures ends { (files : List File) → (S.seen shelf.old).stock ≡ Some files → Plays result (P.seen press.old).sent (played_text files name.now (first_settings asked.now name.now) (within MAX_SCRIPT_BYTES (content files name.now))) (P.seen press.new).sent }
-    ensures counted { (files : List File) → (S.seen shelf.old).stock ≡ Some files → StatusCounted (played_text files name.now (first_settings asked.now name.now) (within MAX_SCRIPT_BYTES (content files name.now))).pairs steps.old result steps.new }
+    ensures ends { (files : List File) → (S.seen shelf.old).stock ≡ Some files → Plays result (P.seen press.old).sent (played_source files asked.now source.now) (P.seen press.new).sent }
+    ensures counted { (files : List File) → (S.seen shelf.old).stock ≡ Some files → StatusCounted (played_source files asked.now source.now).pairs steps.old result steps.new }
     ensures cause { HasCause result (seen_of (S.seen shelf.old) (P.seen press.old) (D.view disk.old).faults) (seen_of (S.seen shelf.new) (P.seen press.new) (D.view disk.new).faults) }
     ensures kept { Kept (seen_of (S.seen shelf.old) (P.seen press.old) (D.view disk.old).faults) (seen_of (S.seen shelf.new) (P.seen press.new) (D.view disk.new).faults) }
     ensures stays { StatusStays result (seen_of (S.seen shelf.old) (P.seen press.old) (D.view disk.old).faults) (seen_of (S.seen shelf.new) (P.seen press.new) (D.view disk.new).faults) }
     ensures no_usage { (place : ℕ) → result ≡ Status.Usage place → ⊥ }
 {
-    let mut settings = match first_settings(alloc, asked, name) {
+    let name = match name_of(alloc, source) {
+        Ok(name) => name,
+        Err(_) => return Status::NoMemory,
+    };
+    let mut settings = match first_settings(alloc, asked, &name) {
         Ok(settings) => settings,
         Err(_) => return Status::NoMemory,
     };
-    match fetch_script(alloc, shelf, name) {
+    match text_of(alloc, shelf, source) {
         Ok(text) => play(
-            rt, alloc, settings, name, &text, shelf, press, disk, gate, external, steps,
+            rt, alloc, settings, &name, &text, shelf, press, disk, gate, external, steps,
         ),
-        Err(Refusal::Code(code)) => refuse(alloc, &mut settings.output, code, name, 0, press),
+        Err(Refusal::Code(code)) => refuse(alloc, &mut settings.output, code, &name, 0, press),
         Err(Refusal::ReadFault) => Status::ReadFault,
         Err(_) => Status::NoMemory,
     }
@@ -133,17 +180,8 @@ fn run<
         Err(Misread::NoMemory) => return Status::NoMemory,
     };
     match &asked.script {
-        Some(script) => run_named(
-            rt,
-            alloc,
-            &asked,
-            &script.name,
-            shelf,
-            press,
-            disk,
-            gate,
-            external,
-            steps,
+        Some(source) => run_source(
+            rt, alloc, &asked, source, shelf, press, disk, gate, external, steps,
         ),
         None => Status::Usage { place: 0 },
     }

@@ -1,11 +1,13 @@
 //! Reading the words of the command line.
 ghost use Rattle.fxlmp_top.specs.Ends.{Reads, Steps, stand_of};
-ghost use Rattle.fxlmp_top.specs.Words.{asked, end_of, ends, is_chosen, is_either, is_flag, is_log, is_name, is_script, log_word, nothing_asked, option_word, screen_word, script_word, step, unless, value_word, variable_word};
+ghost use Rattle.fxlmp_top.specs.Words.{asked, cells_word, end_of, ends, is_chosen, is_either, is_flag, is_log, is_name, is_script, log_word, nothing_asked, option_word, screen_word, script_word, seed_word, step, unless, value_word, variable_word, whole_within};
 ghost use Rattle.std.specs.Prelude.{◌≡◌, IfNone, IfOk};
 
-use crate::asked::{Asked, Definition, LogChoice, ScriptName, Wanted};
-use fx_num::{NoMemory, Seq, Text};
+use crate::asked::{Asked, Definition, LogChoice, ScriptName, Source, Wanted};
+use command_words::MAX_SEED;
+use fx_num::{NoMemory, Seq, Text, read_whole};
 use names::{is_compressed, is_file_name, is_id};
+use run_gen::{MAX_CELLS, MIN_CELLS};
 use std::alloc::Global;
 
 /// Why words ask for nothing.
@@ -19,6 +21,9 @@ pub(crate) enum Misread {
 
 /// The log's name where the words give none.
 pub const DEFAULT_LOG: &[u8] = b"log.lammps";
+
+/// The option for the generated script.
+const GENERATE: &[u8] = b"-gen";
 
 /// The word for no log, and for no screen.
 const NONE: &[u8] = b"none";
@@ -64,11 +69,11 @@ impl Asked {
         matches!(&self.log, LogChoice::File(log) if log.same(name))
     }
 
-    /// Whether the script has this name.
+    /// Whether the script is the file of this name.
     fn is_script(&self, name: &Text) -> bool
         ensures { result ≡ is_script self.now.script name.now }
     {
-        matches!(&self.script, Some(script) if script.name.same(name))
+        matches!(&self.script, Some(Source::File(script)) if script.name.same(name))
     }
 }
 
@@ -92,6 +97,9 @@ fn option_word(asked: &Asked, word: &[u8]) -> Option<Wanted>
 {
     if is_either(b"-in", b"-i", word) {
         return unless(asked.script.is_some(), Wanted::Script);
+    }
+    if word == GENERATE {
+        return unless(asked.script.is_some(), Wanted::Cells);
     }
     if is_either(b"-log", b"-l", word) {
         return unless(asked.has_log(), Wanted::Log);
@@ -118,6 +126,8 @@ fn take(
     match wanted {
         Wanted::Flag => Ok(option_word(asked, word.as_bytes())),
         Wanted::Script => take_script(alloc, asked, place, word),
+        Wanted::Cells => Ok(take_cells(word)),
+        Wanted::Seed(cells) => Ok(take_seed(asked, cells, word)),
         Wanted::Log => take_log(alloc, asked, word),
         Wanted::Screen => Ok(take_screen(asked, word)),
         Wanted::Variable => take_variable(alloc, asked, word),
@@ -138,8 +148,41 @@ fn take_script(
         return Ok(None);
     }
     let name = word.copy(alloc)?;
-    asked.script = Some(ScriptName { place, name });
+    asked.script = Some(Source::File(ScriptName { place, name }));
     Ok(Some(Wanted::Flag))
+}
+
+/// The whole number that a word is, where it is from `low` to `high`.
+fn whole_within(low: u32, high: u32, word: &[u8]) -> Option<u32>
+    ensures { result ≡ whole_within low high word.now }
+{
+    match read_whole(word) {
+        Ok(n) if u64::from(low) <= n && n <= u64::from(high) => Some(n as u32),
+        _ => None,
+    }
+}
+
+/// Takes the number of lattice cells of the generated script.
+fn take_cells(word: &Text) -> Option<Wanted>
+    ensures { (a : Asked) → cells_word a word.now ≡ stand_of a result }
+{
+    match whole_within(MIN_CELLS, MAX_CELLS, word.as_bytes()) {
+        Some(cells) => Some(Wanted::Seed(cells)),
+        None => None,
+    }
+}
+
+/// Takes the seed of the generated script.
+fn take_seed(asked: &mut Asked, cells: u32, word: &Text) -> Option<Wanted>
+    ensures { seed_word asked.old cells word.now ≡ stand_of asked.new result }
+{
+    match whole_within(1, MAX_SEED, word.as_bytes()) {
+        Some(seed) => {
+            asked.script = Some(Source::Generated { cells, seed });
+            Some(Wanted::Flag)
+        }
+        None => None,
+    }
 }
 
 /// Takes the log's name, or `none`.
@@ -209,9 +252,8 @@ fn checked(asked: Asked, count: u64) -> Result<Asked, Misread>
 {
     match (&asked.script, &asked.log) {
         (None, _) => Err(Misread::Usage(count)),
-        (Some(script), LogChoice::Default) if script.name.as_bytes() == DEFAULT_LOG => {
-            Err(Misread::Usage(script.place))
-        }
+        (Some(Source::File(script)), LogChoice::Default) if script.name.as_bytes() == DEFAULT_LOG =>
+            { Err(Misread::Usage(script.place)) }
         _ => Ok(asked),
     }
 }

@@ -21,7 +21,7 @@ use Rattle.meaning.specs.Pairs.{pair_coeff, pair_style}
 use Rattle.meaning.specs.Runs.{reset_timestep, run}
 use Rattle.meaning.specs.Session.{clear}
 use Rattle.meaning.specs.Setup.{atom_style, boundary, dimension, processors, timestep}
-use Rattle.meaning.specs.SystemFiles.{read_data}
+use Rattle.meaning.specs.SystemFiles.{read_data, write_data}
 use Rattle.meaning.specs.Thermo.{thermo}
 use Rattle.meaning.specs.Variables.{variable}
 use Rattle.meaning.specs.Velocity.{velocity}
@@ -57,6 +57,7 @@ outcome_of files (command.Region r) s = answered s (region r s)
 outcome_of files (command.CreateBox b) s = answered s (create_box b s)
 outcome_of files (command.CreateAtoms c) s = answered s (create_atoms c s)
 outcome_of files (command.ReadData name) s = read_data files name s
+outcome_of files (command.WriteData name) s = write_data name s
 outcome_of files (command.Mass m) s = answered s (mass m s)
 outcome_of files (command.Group g) s = group_of g.members g s
 outcome_of files (command.PairStyle cutoff) s = answered s (pair_style cutoff s)

@@ -22,6 +22,10 @@ nothing_shown uses = record { pieces = []; uses = uses }
 abbrev pub shown_under : List ℕ → List ℕ → List NameUse → Shown
 shown_under name text uses = record { pieces = piece_of name (not (has_begun uses name)) text ∷ []; uses = begun name uses }
 
+-- a text that starts its file anew, whatever was put under the name
+abbrev pub put_anew : List ℕ → List ℕ → List NameUse → Shown
+put_anew name text uses = record { pieces = piece_of name true text ∷ []; uses = begun name uses }
+
 abbrev pub shown_in_log : Option (List ℕ) → List ℕ → List NameUse → Shown
 shown_in_log None text uses = nothing_shown uses
 shown_in_log (Some name) text uses = shown_under name text uses

@@ -1,17 +1,20 @@
--- `read_data`: what is in the box, from a data file, and coefficients of pairs.
+-- `read_data`: what is in the box, from a data file, and coefficients of pairs. `write_data`: what is in the box, as a data file.
 use Rattle.std.specs.Prelude.{◌==◌, ◌||◌, Bool, cond, not, is_some, nat_le, ℕ, ℤ, Option, Some, None, unwrap_or, Result, Ok, Err, List, [], ◌∷◌, length}
 use Rattle.std.specs.List.{list_any}
 use Rattle.data_file.specs.declared.contents.PairLine.{PairLine}
 use Rattle.data_file.specs.declared.fault.DataFault.{DataFault}
+use Rattle.box_geo.specs.declared.styles.AtomStyle.{AtomStyle}
 use Rattle.data_file.specs.Data.{Contents, data_of}
+use Rattle.data_text.specs.DataText.{data_text}
 use Rattle.meaning.specs.declared.code.Code.{Code}
-use Rattle.meaning.specs.declared.code.Code.TheVariants.{BoxExists, DataLine, FileTooLong, NoFile}
+use Rattle.meaning.specs.declared.code.Code.TheVariants.{BoxExists, DataLine, FileTooLong, NoBox, NoFile}
 use Rattle.meaning.specs.declared.settings.Body.{Body}
 use Rattle.meaning.specs.declared.settings.Settings.{Settings}
 use Rattle.meaning.specs.declared.uses.NameUse.{NameUse}
-use Rattle.meaning.specs.declared.uses.UseKind.TheVariants.{Fetched}
+use Rattle.meaning.specs.declared.uses.UseKind.TheVariants.{Fetched, Put}
 use Rattle.meaning.specs.Outcome.{Outcome, answered, refused}
-use Rattle.meaning.specs.Output.{with_uses}
+use Rattle.meaning.specs.Output.{after_shown, with_uses}
+use Rattle.meaning.specs.Shown.{put_anew}
 use Rattle.pair_lj.specs.declared.pair_settings.PairCoefficients.{PairCoefficients}
 use Rattle.pair_lj.specs.Pairs.{is_covered, set_pair}
 use Rattle.meaning.specs.Uses.{names}
@@ -80,3 +83,19 @@ before_fetch files name s (Err why) = refused s why
 
 abbrev pub read_data : List File → List ℕ → Settings → Outcome
 read_data files name s = before_fetch files name s (names Fetched name s.output.uses)
+
+-- the text of a data file of what is in the box
+abbrev pub text_of_body : AtomStyle → Body → List ℕ
+text_of_body style b = data_text b.step b.sides b.mass b.atoms b.bonds b.angles style
+
+abbrev pub with_box : List ℕ → Settings → List NameUse → Option Body → Outcome
+with_box name s uses (Some b) = after_shown s (put_anew name (text_of_body s.setup.style b) uses)
+with_box name s uses None = refused s NoBox
+
+-- the name is judged before whether there is a box
+abbrev pub before_put : List ℕ → Settings → Result (List NameUse) Code → Outcome
+before_put name s (Ok uses) = with_box name s uses s.body
+before_put name s (Err why) = refused s why
+
+abbrev pub write_data : List ℕ → Settings → Outcome
+write_data name s = before_put name s (names Put name s.output.uses)

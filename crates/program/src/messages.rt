@@ -1,5 +1,5 @@
 //! The texts of the program: those that `--help` and `--version` print, and those on standard error.
-ghost use Rattle.std.specs.Prelude.{◌≡◌, IfOk};
+ghost use Rattle.std.specs.Prelude.{◌≡◌, ◌++◌, IfOk};
 ghost use Rattle.program.specs.Request.{help_text, text_for};
 
 use crate::request::Request;
@@ -15,6 +15,7 @@ pub(crate) const VERSION: &str = "fxlmp 0.1.0\n";
 /// How the program is called.
 const USAGE: &str = "
 usage: fxlmp -in FILE [-log FILE] [-screen none] [-var NAME VALUE ..]
+       fxlmp -gen N SEED [-log FILE] [-screen none] [-var NAME VALUE ..]
        fxlmp --help      print how to use the program
        fxlmp --version   print its name and version
 ";
@@ -26,13 +27,17 @@ arithmetic: every length, velocity, force and energy is a whole multiple of
 2^-24. Units are those of `units lj`.
 
   -in FILE, -i              the script
+  -gen N SEED               in place of -in a generated script: a crystal of 4 N N N
+                            atoms begins to melt. N is from 4 to 64, SEED, by which
+                            the velocities are drawn, from 1 to 2147483647
   -log FILE, -l             the file of the log, in place of log.lammps
   -log none                 no file of the log
   -screen none, -sc         nothing on the standard output
   -var NAME VALUE .., -v    an index variable; its values go on up to the next
                             word that begins with - and a letter
 
-The words stand in any order, each but -var at most once. FILE is a name, or a
+The words stand in any order, each but -var at most once. One of -in and -gen is
+needed. FILE is a name, or a
 path from the current folder: 1 to 255 printable ASCII characters but blanks,
 quotes, * and %, and no compressed file (.gz, .bz2, .xz, .zst, .lz4). The script
 and the log have different names. NAME is 1 to 64 letters, digits and _.
@@ -55,10 +60,11 @@ ${name} stand for the value of a variable. This version runs these commands:
   create_atoms TYPE box             variable NAME string TEXT
     | region ID | single X Y Z      variable NAME delete
   read_data FILE                    neighbor SKIN bin | nsq | multi
-  mass TYPES MASS                   comm_modify cutoff CUTOFF
-  pair_style lj/cut CUTOFF          fix ID all nve
-  pair_coeff TYPES TYPES            unfix ID
-    EPSILON SIGMA [CUTOFF]          clear, quit
+  write_data FILE                   comm_modify cutoff CUTOFF
+  mass TYPES MASS                   fix ID all nve
+  pair_style lj/cut CUTOFF          unfix ID
+  pair_coeff TYPES TYPES            clear, quit
+    EPSILON SIGMA [CUTOFF]
   newton, atom_modify, echo, neigh_modify (no effect)
 
 All other commands of the language are read, and end the run with status 9. Data
@@ -84,9 +90,16 @@ exit status:
 fn help_text(alloc: Global) -> Result<Text, NoMemory>
     ensures { IfOk result (λ text. text ≡ help_text) }
 {
-    let mut text = Text::from_bytes(alloc, VERSION.as_bytes())?;
-    text.push(USAGE.as_bytes())?;
-    text.push(DETAILS.as_bytes())?;
+    joined(alloc, VERSION, USAGE, DETAILS)
+}
+
+/// Three texts, one behind the other.
+fn joined(alloc: Global, first: &str, second: &str, third: &str) -> Result<Text, NoMemory>
+    ensures { IfOk result (λ text. text ≡ first.now ++ (second.now ++ third.now)) }
+{
+    let mut text = Text::from_bytes(alloc, first.as_bytes())?;
+    text.push(second.as_bytes())?;
+    text.push(third.as_bytes())?;
     Ok(text)
 }
 
@@ -165,16 +178,20 @@ impl WrongWord<'_> {
         str::from_utf8(self.words?.get(place)?.as_bytes()).ok()
     }
 
-    /// The word before the place, if there is one and it is text.
-    fn option(&self) -> Option<&str> {
-        let before = usize::try_from(self.place.checked_sub(1)?).ok()?;
+    /// The word so many places before it, if there is one and it is text.
+    fn word_before(&self, places: u64) -> Option<&str> {
+        let before = usize::try_from(self.place.checked_sub(places)?).ok()?;
         str::from_utf8(self.words?.get(before)?.as_bytes()).ok()
     }
 
     /// Why a word at the place is wrong.
     fn reason(&self) -> &'static str {
-        match self.option() {
+        if let Some("-gen") = self.word_before(2) {
+            return "not a seed from 1 to 2147483647";
+        }
+        match self.word_before(1) {
             Some("-in" | "-i") => "not the name of a script that can be run",
+            Some("-gen") => "not a number of lattice cells from 4 to 64",
             Some("-log" | "-l") => "not the name of a log",
             Some("-screen" | "-sc") => "expected none",
             Some("-var" | "-v") => "not the name of a variable",

@@ -20,7 +20,7 @@ use Rattle.session.specs.Refusals.{changed_of, coded_of, on_of, widened}
 sends_nothing : (meant : Outcome) (sent : Option (List Piece)) → meant.pieces ≡ [] → sent ≡ plus sent meant.pieces
 sends_nothing meant sent h = sym (plus-nil sent) ∙ ap (λ (ps : List Piece). plus sent ps) (sym h)
 
-stops_silent : (why : Refusal) (meant : Outcome) (sent : Option (List Piece)) (new : Settings) → RefusesWith why meant new → StoppedBy why meant sent sent new
+pub stops_silent : (why : Refusal) (meant : Outcome) (sent : Option (List Piece)) (new : Settings) → RefusesWith why meant new → StoppedBy why meant sent sent new
 stops_silent (why.Code code) meant sent new h =
     record { way = ap (λ (o : Outcome). o.way) h; sent = sends_nothing meant sent (ap (λ (o : Outcome). o.pieces) h); state_is = ap (λ (o : Outcome). o.state) (sym h) }
 stops_silent (why.Range key step) meant sent new h = absurd h
@@ -60,7 +60,7 @@ does_executes meant (Ok x) old new state h = record { goes_on = h.goes_on; sent 
 does_executes meant (Err why) old new state h = record { goes_on = tt; sent = tt; after = tt; stopped = h.stopped }
 
 -- no terms of pairs are summed
-none_counted : {T : Type 0} (pairs n : ℕ) (r : Result T Refusal) → pairs ≡ 0 → Counted pairs n r n
+pub none_counted : {T : Type 0} (pairs n : ℕ) (r : Result T Refusal) → pairs ≡ 0 → Counted pairs n r n
 none_counted {T} pairs n (Ok x) h = record { few = omega arith; exact = omega arith }
 none_counted {T} pairs n (Err why) h = record { few = omega arith; exact = tt }
 

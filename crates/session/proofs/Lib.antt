@@ -3,3 +3,4 @@ pub mod ExecuteLemmas
 pub mod FileLemmas
 pub mod OtherLemmas
 pub mod PlayLemmas
+pub mod WriteLemmas

@@ -34,6 +34,7 @@ pub record IsOther (k : Command) : Type 0 where
   pub create_box_not : (x : NewBox) → k ≡ command.CreateBox x → ⊥
   pub create_atoms_not : (x : Creation) → k ≡ command.CreateAtoms x → ⊥
   pub read_data_not : (x : List ℕ) → k ≡ command.ReadData x → ⊥
+  pub write_data_not : (x : List ℕ) → k ≡ command.WriteData x → ⊥
   pub mass_not : (x : MassSetting) → k ≡ command.Mass x → ⊥
   pub group_not : (x : GroupChange) → k ≡ command.Group x → ⊥
   pub pair_style_not : (x : ℤ) → k ≡ command.PairStyle x → ⊥
@@ -69,7 +70,7 @@ others_unbuilt files (command.Region x) s h = absurd (h.region_not x refl)
 others_unbuilt files (command.CreateBox x) s h = absurd (h.create_box_not x refl)
 others_unbuilt files (command.CreateAtoms x) s h = absurd (h.create_atoms_not x refl)
 others_unbuilt files (command.ReadData x) s h = absurd (h.read_data_not x refl)
-others_unbuilt files (command.WriteData x) s h = refl
+others_unbuilt files (command.WriteData x) s h = absurd (h.write_data_not x refl)
 others_unbuilt files (command.Restart x) s h = refl
 others_unbuilt files (command.WriteRestart x) s h = refl
 others_unbuilt files (command.ReadRestart x) s h = refl

@@ -10,7 +10,7 @@ ghost use Rattle.std.specs.Prelude.{◌≡◌, List, Some, IfErr, OnOk};
 use crate::answers::{changed, decided, on_of, widened};
 use crate::output::{print, set_log};
 use crate::session::clear;
-use crate::system_files::read_data;
+use crate::system_files::{read_data, write_data};
 use crate::variables::set_variable;
 use box_geo::AtomStyle;
 use command_words::{Command, FixStyle, GroupChange, Members, NewFix};
@@ -81,6 +81,7 @@ pub fn execute<
         Command::CreateBox(new) => changed(create_box(settings, alloc, &new)),
         Command::CreateAtoms(new) => changed(create_atoms(settings, alloc, &new)),
         Command::ReadData(name) => on_of(read_data(alloc, settings, &name, shelf)),
+        Command::WriteData(name) => on_of(write_data(alloc, settings, &name, press)),
         Command::Mass(mass) => changed(set_masses(settings, alloc, &mass)),
         Command::Group(change) => on_of(set_group(alloc, settings, change)),
         Command::PairStyle(cutoff) => decided(set_pair_style(settings, cutoff)),

@@ -1,19 +1,23 @@
-//! `read_data`.
-ghost use Rattle.meaning.specs.Causes.{Kept, Rests, Stays, nothing_lent, shelf_alone};
-ghost use Rattle.meaning.specs.Sends.{Changes};
+//! `read_data` and `write_data`.
+ghost use Rattle.meaning.specs.Causes.{Kept, Rests, Stays, nothing_lent, press_alone, shelf_alone};
+ghost use Rattle.meaning.specs.Sends.{Changes, Does, Shows};
+ghost use Rattle.meaning.specs.Shown.{put_anew};
 ghost use Rattle.meaning.specs.Sound.{IsSound};
-ghost use Rattle.meaning.specs.SystemFiles.{fetched, read_data, with_data};
+ghost use Rattle.meaning.specs.SystemFiles.{fetched, read_data, text_of_body, with_data, write_data};
 ghost use Rattle.data_file.specs.Data.{data_of};
 ghost use Rattle.outside.specs.declared.files.File.{File};
 ghost use Rattle.outside.specs.declared.shelf.TheConstants.{MAX_FETCHED};
 ghost use Rattle.session.specs.Ends.{GetsFile};
-ghost use Rattle.std.specs.Prelude.{◌≡◌, ◌≤◌, List, Some, length, IfErr, IfOk, OnOk};
+ghost use Rattle.outside.specs.Stock.{Rose};
+ghost use Rattle.std.specs.Prelude.{◌≡◌, ◌≤◌, List, Some, length, IfErr, IfOk, IsErrOf, OnOk};
 
 use crate::answers::widened;
+use box_geo::AtomStyle;
 use data_file::{DataRefusal, read_data as data_of};
-use fx_num::Text;
-use meaning::{Code, Refusal, Settings, UseKind};
-use outside::{FetchRefusal, Shelf};
+use data_text::write_data as text_of_data;
+use fx_num::{NoMemory, Text};
+use meaning::{Body, Code, Refusal, Settings, UseKind, Uses, put_refusal};
+use outside::{FetchRefusal, Press, PutRefusal, Shelf};
 use run_settings::take_data;
 use std::alloc::Global;
 
@@ -89,5 +93,83 @@ pub(crate) fn read_data<S: Shelf>(
     match settings.output.uses.add(alloc, UseKind::Fetched, name) {
         Ok(()) => Ok(()),
         Err(_) => Err(Refusal::NoMemory),
+    }
+}
+
+/// The text of a data file of what is in the box.
+fn text_of_body(alloc: Global, style: AtomStyle, body: &Body) -> Result<Text, NoMemory>
+    ensures { IfOk result (λ text. text ≡ text_of_body style body.now) }
+{
+    text_of_data(
+        alloc,
+        body.step,
+        &body.sides,
+        body.mass.as_slice(),
+        body.atoms.as_slice(),
+        body.bonds.as_slice(),
+        body.angles.as_slice(),
+        style,
+    )
+}
+
+/// Puts a text that starts its file anew, whatever was put under the name.
+fn put_anew<P: Press>(
+    alloc: Global,
+    name: &Text,
+    uses: &mut Uses,
+    press: &mut P,
+    text: &[u8],
+) -> Result<(), PutRefusal>
+    ensures shows { Shows (put_anew name.now text.now uses.old) (P.seen press.old).sent result (P.seen press.new).sent uses.new }
+    ensures cause { IsErrOf result PutRefusal.Faulted → Rose (P.seen press.old).faults (P.seen press.new).faults }
+    ensures kept { (P.seen press.old).faults ≤ (P.seen press.new).faults }
+    ensures stays { (IsErrOf result PutRefusal.Faulted → ⊥) → (P.seen press.new).faults ≡ (P.seen press.old).faults }
+{
+    match press.put(alloc, name, true, text) {
+        Ok(()) => {
+            uses.begin(name.as_bytes());
+            Ok(())
+        }
+        Err(why) => Err(why),
+    }
+}
+
+/// `write_data`: what is in the box, as a data file that starts anew. The name is judged before whether there is a box.
+pub(crate) fn write_data<P: Press>(
+    alloc: Global,
+    settings: &mut Settings,
+    name: &Text,
+    press: &mut P,
+) -> Result<(), Refusal>
+    requires sound { IsSound settings.old }
+    ensures does { Does (write_data name.now settings.old) (P.seen press.old).sent result (P.seen press.new).sent settings.new }
+    ensures sound { OnOk result (IsSound settings.new) }
+    ensures cause { IfErr result (λ why. Rests why (press_alone (P.seen press.old)) (press_alone (P.seen press.new))) }
+    ensures kept { Kept (press_alone (P.seen press.old)) (press_alone (P.seen press.new)) }
+    ensures stays { Stays result (press_alone (P.seen press.old)) (press_alone (P.seen press.new)) }
+{
+    if let Some(code) = settings.output.uses.refusal_of(UseKind::Put, name) {
+        return Err(Refusal::Code(code));
+    }
+    let Some(body) = &settings.body else {
+        return Err(Refusal::Code(Code::NoBox));
+    };
+    let text = match text_of_body(alloc, settings.setup.style, body) {
+        Ok(text) => text,
+        Err(_) => return Err(Refusal::NoMemory),
+    };
+    match settings.output.uses.add(alloc, UseKind::Put, name) {
+        Ok(()) => {}
+        Err(_) => return Err(Refusal::NoMemory),
+    }
+    match put_anew(
+        alloc,
+        name,
+        &mut settings.output.uses,
+        press,
+        text.as_bytes(),
+    ) {
+        Ok(()) => Ok(()),
+        Err(why) => Err(put_refusal(why)),
     }
 }

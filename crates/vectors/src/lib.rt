@@ -8,6 +8,8 @@
 #[cfg(test)]
 mod failing;
 #[cfg(test)]
+mod generated;
+#[cfg(test)]
 mod groups;
 #[cfg(test)]
 mod logs;
@@ -23,3 +25,5 @@ mod setting;
 mod steps;
 #[cfg(test)]
 mod systems;
+#[cfg(test)]
+mod written;

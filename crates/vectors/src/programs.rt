@@ -13,6 +13,7 @@ use std::thread::Threads;
 /// How the program is called, as it is said after a wrong command line.
 const USAGE: &str = "
 usage: fxlmp -in FILE [-log FILE] [-screen none] [-var NAME VALUE ..]
+       fxlmp -gen N SEED [-log FILE] [-screen none] [-var NAME VALUE ..]
        fxlmp --help      print how to use the program
        fxlmp --version   print its name and version
 ";
@@ -101,7 +102,7 @@ fn check_text_that_fails(
 
 #[test]
 fn the_program_says_what_its_number_means(rt: HostRuntime) -> Result<(), Fail> {
-    let rows: [(Result<&[&str], Unread>, u8, &str, &str); 8] = [
+    let rows: [(Result<&[&str], Unread>, u8, &str, &str); 10] = [
         (Ok(WORDS), 0, "", ""),
         (Ok(&["-in", "in.three"]), 1, "", ""),
         (
@@ -126,6 +127,18 @@ fn the_program_says_what_its_number_means(rt: HostRuntime) -> Result<(), Fail> {
             Ok(&["-in", SCRIPT_NAME, "-screen", "all"]),
             7,
             "fxlmp: wrong word at place 3, counted from 0: \"all\" (expected none)\n",
+            USAGE,
+        ),
+        (
+            Ok(&["-gen", "65", "1"]),
+            7,
+            "fxlmp: wrong word at place 1, counted from 0: \"65\" (not a number of lattice cells from 4 to 64)\n",
+            USAGE,
+        ),
+        (
+            Ok(&["-gen", "4", "0"]),
+            7,
+            "fxlmp: wrong word at place 2, counted from 0: \"0\" (not a seed from 1 to 2147483647)\n",
             USAGE,
         ),
         (

@@ -40,7 +40,7 @@ fn check_usage(
 
 #[test]
 fn a_wrong_command_line_is_told_by_its_place(rt: HostRuntime) -> Result<(), Fail> {
-    let rows: [(&[&str], u64); 16] = [
+    let rows: [(&[&str], u64); 27] = [
         (&[], 0),
         (&["-in"], 1),
         (&["-in", SCRIPT_NAME, "more"], 2),
@@ -57,6 +57,17 @@ fn a_wrong_command_line_is_told_by_its_place(rt: HostRuntime) -> Result<(), Fail
         (&["-var", "a-b", "1", "-in", SCRIPT_NAME], 1),
         (&["-log", "none"], 2),
         (&["-grid", "1", "1", "1", "-in", SCRIPT_NAME], 0),
+        (&["-gen"], 1),
+        (&["-gen", "4"], 2),
+        (&["-gen", "3", "1"], 1),
+        (&["-gen", "65", "1"], 1),
+        (&["-gen", "4.0", "1"], 1),
+        (&["-gen", "4", "0"], 2),
+        (&["-gen", "4", "2147483648"], 2),
+        (&["-gen", "4", "1", "1"], 3),
+        (&["-gen", "4", "1", "-in", SCRIPT_NAME], 3),
+        (&["-in", SCRIPT_NAME, "-gen", "4", "1"], 2),
+        (&["-gen", "4", "1", "-gen", "4", "1"], 3),
     ];
     for (words, place) in rows {
         check_usage(&rt, words, place)?;

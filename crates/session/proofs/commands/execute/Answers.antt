@@ -14,6 +14,7 @@ use Rattle.meaning.specs.Variables.{variable}
 use Rattle.meaning.specs.Velocity.{velocity}
 use Rattle.outside.specs.declared.files.File.{File}
 use Rattle.meaning.specs.declared.refusal.Refusal.TheVariants.{NotBuilt}
+use Rattle.session.proofs.WriteLemmas.{write_counted}
 use Rattle.session.proofs.OtherLemmas.{IsOther, others_unbuilt}
 use Rattle.session.proofs.ExecuteLemmas.{answers_executes, changes_executes, decides_executes}
 use Rattle.session.proofs.commands.execute.Goals as goal
@@ -63,15 +64,18 @@ returns-in-AtomStyle-clause-does g c = λ (files : List File) told. rw (c.in-Ato
 pub returns-in-Clear-clause-does : goal.returns-in-Clear-clause-does
 returns-in-Clear-clause-does g c = λ (files : List File) told. rw (c.in-Clear.is, c.on_of-in-Clear.ensures) (changes_executes (done (clear c.args.settings.now)) c.clear.result (g.P.Press.seen c.args.press.now).sent c.clear.new.settings c.clear.ensures.changes)
 
+pub returns-in-WriteData-clause-counted : goal.returns-in-WriteData-clause-counted
+returns-in-WriteData-clause-counted g c = λ (files : List File) told. rw c.in-WriteData.is (write_counted c.in-WriteData.name c.args.settings.now c.on_of-in-WriteData.result c.args.steps.now)
+
 pub returns-clause-does : goal.returns-clause-does
 returns-clause-does g c =
     λ (files : List File) told.
-    let other : IsOther c.args.command = record { units_not = c.in_default.not-Units; dimension_not = c.in_default.not-Dimension; boundary_not = c.in_default.not-Boundary; atom_style_not = c.in_default.not-AtomStyle; processors_not = c.in_default.not-Processors; newton_not = c.in_default.not-Newton; atom_modify_not = c.in_default.not-AtomModify; echo_not = c.in_default.not-Echo; lattice_not = c.in_default.not-Lattice; region_not = c.in_default.not-Region; create_box_not = c.in_default.not-CreateBox; create_atoms_not = c.in_default.not-CreateAtoms; read_data_not = c.in_default.not-ReadData; mass_not = c.in_default.not-Mass; group_not = c.in_default.not-Group; pair_style_not = c.in_default.not-PairStyle; pair_coeff_not = c.in_default.not-PairCoeff; neighbor_not = c.in_default.not-Neighbor; neigh_modify_not = c.in_default.not-NeighModify; comm_modify_not = c.in_default.not-CommModify; velocity_not = c.in_default.not-Velocity; fix_not = c.in_default.not-Fix; unfix_not = c.in_default.not-Unfix; thermo_not = c.in_default.not-Thermo; run_not = c.in_default.not-Run; timestep_not = c.in_default.not-Timestep; reset_timestep_not = c.in_default.not-ResetTimestep; print_not = c.in_default.not-Print; log_not = c.in_default.not-Log; variable_not = c.in_default.not-Variable; clear_not = c.in_default.not-Clear; quit_not = c.in_default.not-Quit } in
+    let other : IsOther c.args.command = record { units_not = c.in_default.not-Units; dimension_not = c.in_default.not-Dimension; boundary_not = c.in_default.not-Boundary; atom_style_not = c.in_default.not-AtomStyle; processors_not = c.in_default.not-Processors; newton_not = c.in_default.not-Newton; atom_modify_not = c.in_default.not-AtomModify; echo_not = c.in_default.not-Echo; lattice_not = c.in_default.not-Lattice; region_not = c.in_default.not-Region; create_box_not = c.in_default.not-CreateBox; create_atoms_not = c.in_default.not-CreateAtoms; read_data_not = c.in_default.not-ReadData; write_data_not = c.in_default.not-WriteData; mass_not = c.in_default.not-Mass; group_not = c.in_default.not-Group; pair_style_not = c.in_default.not-PairStyle; pair_coeff_not = c.in_default.not-PairCoeff; neighbor_not = c.in_default.not-Neighbor; neigh_modify_not = c.in_default.not-NeighModify; comm_modify_not = c.in_default.not-CommModify; velocity_not = c.in_default.not-Velocity; fix_not = c.in_default.not-Fix; unfix_not = c.in_default.not-Unfix; thermo_not = c.in_default.not-Thermo; run_not = c.in_default.not-Run; timestep_not = c.in_default.not-Timestep; reset_timestep_not = c.in_default.not-ResetTimestep; print_not = c.in_default.not-Print; log_not = c.in_default.not-Log; variable_not = c.in_default.not-Variable; clear_not = c.in_default.not-Clear; quit_not = c.in_default.not-Quit } in
     changes_executes (outcome_of files c.args.command c.args.settings.now) (Err NotBuilt) (g.P.Press.seen c.args.press.now).sent c.args.settings.now (others_unbuilt files c.args.command c.args.settings.now other)
 
 pub returns-clause-counted : goal.returns-clause-counted
 returns-clause-counted g c =
     λ (files : List File) told.
-    let other : IsOther c.args.command = record { units_not = c.in_default.not-Units; dimension_not = c.in_default.not-Dimension; boundary_not = c.in_default.not-Boundary; atom_style_not = c.in_default.not-AtomStyle; processors_not = c.in_default.not-Processors; newton_not = c.in_default.not-Newton; atom_modify_not = c.in_default.not-AtomModify; echo_not = c.in_default.not-Echo; lattice_not = c.in_default.not-Lattice; region_not = c.in_default.not-Region; create_box_not = c.in_default.not-CreateBox; create_atoms_not = c.in_default.not-CreateAtoms; read_data_not = c.in_default.not-ReadData; mass_not = c.in_default.not-Mass; group_not = c.in_default.not-Group; pair_style_not = c.in_default.not-PairStyle; pair_coeff_not = c.in_default.not-PairCoeff; neighbor_not = c.in_default.not-Neighbor; neigh_modify_not = c.in_default.not-NeighModify; comm_modify_not = c.in_default.not-CommModify; velocity_not = c.in_default.not-Velocity; fix_not = c.in_default.not-Fix; unfix_not = c.in_default.not-Unfix; thermo_not = c.in_default.not-Thermo; run_not = c.in_default.not-Run; timestep_not = c.in_default.not-Timestep; reset_timestep_not = c.in_default.not-ResetTimestep; print_not = c.in_default.not-Print; log_not = c.in_default.not-Log; variable_not = c.in_default.not-Variable; clear_not = c.in_default.not-Clear; quit_not = c.in_default.not-Quit } in
+    let other : IsOther c.args.command = record { units_not = c.in_default.not-Units; dimension_not = c.in_default.not-Dimension; boundary_not = c.in_default.not-Boundary; atom_style_not = c.in_default.not-AtomStyle; processors_not = c.in_default.not-Processors; newton_not = c.in_default.not-Newton; atom_modify_not = c.in_default.not-AtomModify; echo_not = c.in_default.not-Echo; lattice_not = c.in_default.not-Lattice; region_not = c.in_default.not-Region; create_box_not = c.in_default.not-CreateBox; create_atoms_not = c.in_default.not-CreateAtoms; read_data_not = c.in_default.not-ReadData; write_data_not = c.in_default.not-WriteData; mass_not = c.in_default.not-Mass; group_not = c.in_default.not-Group; pair_style_not = c.in_default.not-PairStyle; pair_coeff_not = c.in_default.not-PairCoeff; neighbor_not = c.in_default.not-Neighbor; neigh_modify_not = c.in_default.not-NeighModify; comm_modify_not = c.in_default.not-CommModify; velocity_not = c.in_default.not-Velocity; fix_not = c.in_default.not-Fix; unfix_not = c.in_default.not-Unfix; thermo_not = c.in_default.not-Thermo; run_not = c.in_default.not-Run; timestep_not = c.in_default.not-Timestep; reset_timestep_not = c.in_default.not-ResetTimestep; print_not = c.in_default.not-Print; log_not = c.in_default.not-Log; variable_not = c.in_default.not-Variable; clear_not = c.in_default.not-Clear; quit_not = c.in_default.not-Quit } in
     let none = ap (λ (o : Outcome). o.pairs) (others_unbuilt files c.args.command c.args.settings.now other) in
     record { few = omega (arith, none); exact = tt }

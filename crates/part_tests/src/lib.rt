@@ -1,5 +1,5 @@
 //! Tests of the outside, fixes, engines, boards and teams: tables of cases, with expected values that were worked out by
-//! hand. Texts and numbers are in `text_tests`, boxes, pair terms and lists in `list_tests`, whole runs in `vectors`.
+//! hand. Texts and numbers are in `text_tests`, boxes, pair terms and lists in `list_tests`, whole runs in `whole_runs`.
 #![tactic(auto)]
 
 #[cfg(test)]

@@ -1,3 +1,4 @@
+pub mod AskLemmas
 pub mod CloseLemmas
 pub mod FrontLemmas
 pub mod GroupLemmas

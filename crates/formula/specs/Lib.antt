@@ -1,4 +1,6 @@
 pub mod Arithmetic
+pub mod Asked
+pub mod ByName
 pub mod Fronts
 pub mod Grammar
 pub mod Numbers

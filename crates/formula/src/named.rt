@@ -1,5 +1,5 @@
 //! The operands of a formula that have names.
-ghost use Rattle.std.specs.Prelude.{◌≡◌, ◌^◌, ◌≤◌, ◌++◌, ℕ, All, IfOk, OnOk};
+ghost use Rattle.std.specs.Prelude.{◌≡◌, ◌≤◌, ◌++◌, ℕ, All, IfOk, OnOk};
 ghost use Rattle.formula.specs.Operands.{operands};
 
 use crate::tree::Expr;
@@ -21,7 +21,6 @@ pub type Operands = Seq<NamedOperand>;
 /// The operands that have names, from left to right, each with the depth at which it stands where the formula
 /// begins at `depth`. A tree of more levels than a word counts is answered as want of memory.
 pub fn operands(alloc: Global, expr: &Expr, depth: u32) -> Result<Operands, NoMemory>
-    requires { depth ≤ 2 ^ 16 }
     ensures is { IfOk result (λ list. list ≡ operands expr.now depth) }
     ensures deeper { IfOk result (λ list. All (λ o. depth ≤ o.depth) list) }
 {

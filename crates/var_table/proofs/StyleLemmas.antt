@@ -5,7 +5,7 @@ use Rattle.std.specs.Option.{is_some}
 use Rattle.std.proofs.lemmas.Bool.Decides.{nat_tests}
 use Rattle.std.proofs.lemmas.List.{drop-drop}
 use Rattle.var_table.specs.declared.styles.VarStyle.{VarStyle}
-use Rattle.var_table.specs.declared.styles.VarStyle.TheVariants.{Index, Loop, Plain}
+use Rattle.var_table.specs.declared.styles.VarStyle.TheVariants.{Index, Loop, Equal, AtomWise, Plain}
 use Rattle.var_table.specs.Left.{left_of}
 use Rattle.var_table.specs.Variables.{index_after}
 
@@ -25,6 +25,8 @@ index_last (value ∷ next ∷ values) h = absurd (omega arith)
 pub left-none : (style : VarStyle) → left_of style 0 ≡ style
 left-none (Index values) = refl
 left-none (Loop first last) = refl
+left-none (Equal formula) = refl
+left-none (AtomWise formula) = refl
 left-none (Plain text) = refl
 
 more_by : (b : Bool) (values : List (List ℕ)) (past : ℕ) → nat_lt 1 (length values - past) ≡ b → b ≡ is_some (index_after (drop past values))

@@ -3,10 +3,10 @@ use Rattle.std.specs.Prelude.{◌≡◌, ◌+◌, ◌&&◌, Bool, true, false, n
 use Rattle.std.specs.List.{filter, find, flat_map, list_any}
 use Rattle.std.specs.Str.{bytes_eq}
 use Rattle.fx_num.specs.declared.faults.VarFault.{VarFault}
-use Rattle.fx_num.specs.declared.faults.VarFault.TheVariants.{UnknownVariable, Mixed, NoMemory}
+use Rattle.fx_num.specs.declared.faults.VarFault.TheVariants.{UnknownVariable, Mixed, NotText, NoMemory}
 use Rattle.std.specs.Fmt.{decimal}
 use Rattle.var_table.specs.declared.styles.VarStyle.{VarStyle}
-use Rattle.var_table.specs.declared.styles.VarStyle.TheVariants.{Index, Loop, Plain}
+use Rattle.var_table.specs.declared.styles.VarStyle.TheVariants.{Index, Loop, Equal, AtomWise, Plain}
 
 -- a variable: its name and its style. The first value of an index variable, and the first number of a loop, is the present one
 pub record Named : Type 0 where
@@ -27,10 +27,12 @@ style_of table name = style_in (find (is_named name) table)
 abbrev pub is_there : List Named → List ℕ → Bool
 is_there table name = list_any (is_named name) table
 
--- index and loop leave a name that is there; a string defines it anew
+-- index and loop leave a name that is there; equal, atom and string define it anew
 abbrev pub leaves : VarStyle → Bool
 leaves (Index values) = true
 leaves (Loop first last) = true
+leaves (Equal formula) = false
+leaves (AtomWise formula) = false
 leaves (Plain text) = false
 
 -- the table with this style for the name, in its place or else at the end
@@ -54,22 +56,44 @@ place_from i (v ∷ table) name = cond (is_named name v) (Some i) (place_from (i
 abbrev pub without : List Named → List ℕ → List Named
 without table name = filter (λ v. not (is_named name v)) table
 
--- the text of a variable: its present value, a loop's number in decimal digits
+-- what a variable holds now: a text, the formula of a value, or the formula of a value for each atom
+pub data Held : Type 0 where
+  AsText : List ℕ → Held
+  AsFormula : List ℕ → Held
+  AsAtomFormula : List ℕ → Held
+
 abbrev pub first_of : List (List ℕ) → List ℕ
 first_of [] = []
 first_of (value ∷ values) = value
 
-abbrev pub text_of_style : VarStyle → List ℕ
-text_of_style (Index values) = first_of values
-text_of_style (Loop first last) = decimal first
-text_of_style (Plain text) = text
+-- an index variable holds its present value, a loop its present number in decimal digits
+abbrev pub held_by : VarStyle → Held
+held_by (Index values) = AsText (first_of values)
+held_by (Loop first last) = AsText (decimal first)
+held_by (Equal formula) = AsFormula formula
+held_by (AtomWise formula) = AsAtomFormula formula
+held_by (Plain text) = AsText text
 
-abbrev pub text_or_unknown : Option VarStyle → List ℕ → Result (List ℕ) VarFault
-text_or_unknown (Some style) name = Ok (text_of_style style)
+abbrev pub held_in_style : Option VarStyle → Option Held
+held_in_style (Some style) = Some (held_by style)
+held_in_style None = None
+
+-- what the variable of this name holds, if there is one
+abbrev pub held_in : List Named → List ℕ → Option Held
+held_in table name = held_in_style (style_of table name)
+
+-- the text that a variable holds; a formula is no text
+abbrev pub text_held : List ℕ → Held → Result (List ℕ) VarFault
+text_held name (AsText text) = Ok text
+text_held name (AsFormula formula) = Err (NotText name)
+text_held name (AsAtomFormula formula) = Err (NotText name)
+
+abbrev pub text_or_unknown : Option Held → List ℕ → Result (List ℕ) VarFault
+text_or_unknown (Some held) name = text_held name held
 text_or_unknown None name = Err (UnknownVariable name)
 
 abbrev pub text_in : List Named → List ℕ → Result (List ℕ) VarFault
-text_in table name = text_or_unknown (style_of table name) name
+text_in table name = text_or_unknown (held_in table name) name
 
 -- the style with its next value, or none where the present value is the last
 abbrev pub index_after : List (List ℕ) → Option VarStyle
@@ -80,6 +104,8 @@ index_after (value ∷ next ∷ values) = Some (Index (next ∷ values))
 abbrev pub next_style : VarStyle → Option VarStyle
 next_style (Index values) = index_after values
 next_style (Loop first last) = cond (nat_lt first last) (Some (Loop (first + 1) last)) None
+next_style (Equal formula) = None
+next_style (AtomWise formula) = None
 next_style (Plain text) = None
 
 -- two styles that have a next together: index variables alone, or loop variables alone

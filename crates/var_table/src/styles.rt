@@ -14,6 +14,10 @@ pub enum VarStyle {
         /// The last number.
         last: u32,
     },
+    /// `equal`: a formula.
+    Equal(Text),
+    /// `atom`: a formula that has a value for each atom.
+    AtomWise(Text),
     /// `string`: a text.
     Plain(Text),
 }

@@ -2,9 +2,11 @@
 ghost use Rattle.std.specs.Prelude.{◌≡◌, ◌∷◌, [], Ok, None, not, IfErr, IfOk, IsOkAnd, OnErr, OnOk};
 ghost use Rattle.std.specs.Bool.{OnFalse, OnTrue};
 ghost use Rattle.std.specs.List.{list_any};
-ghost use Rattle.var_table.specs.Variables.{all_next, defined, is_exhausted, is_there, leaves, next_fault, next_of, text_in, without, IsFault, IsTextFault};
+ghost use Rattle.var_table.specs.Told.{told_any};
+ghost use Rattle.var_table.specs.Variables.{all_next, defined, held_in, is_exhausted, is_there, leaves, next_fault, next_of, text_in, without, IsFault, IsTextFault};
 
 use crate::search::{find, first_mixed, first_unknown, is_among, is_there, place_of};
+use crate::source::{Source, text_held};
 use crate::styles::VarStyle;
 use crate::variable::Variable;
 use fx_num::{NoMemory, Numbers, Text, VarFault, Words};
@@ -33,7 +35,7 @@ fn leaves(style: &VarStyle) -> bool
     match style {
         VarStyle::Index(_) => true,
         VarStyle::Loop { first: _, last: _ } => true,
-        VarStyle::Plain(_) => false,
+        VarStyle::Equal(_) | VarStyle::AtomWise(_) | VarStyle::Plain(_) => false,
     }
 }
 
@@ -83,8 +85,8 @@ impl Vars {
         })
     }
 
-    /// Defines a variable. Index and loop leave a name that is there; a string defines it anew, whatever
-    /// its style was.
+    /// Defines a variable. Index and loop leave a name that is there; equal, atom and string define it anew,
+    /// whatever its style was.
     ///
     /// # Errors
     ///
@@ -142,18 +144,29 @@ impl Vars {
         was_there
     }
 
-    /// The text of a variable: the present value of an index variable, the present number of a loop in
-    /// decimal digits, the text of a string. No style that is built today reads the numbers `_now`.
+    /// What the variable of this name holds now, or nothing where the name is not there.
+    pub fn source(&self, name: &[u8]) -> Option<Source<'_>>
+        ensures { told_any result ≡ held_in self.now name.now }
+    {
+        match find(&self.items, name) {
+            Some(variable) => Some(variable.source()),
+            None => None,
+        }
+    }
+
+    /// The text that a variable holds: the present value of an index variable, the present number of a loop
+    /// in decimal digits, the text of a string. No such text depends on the numbers `_now`.
     ///
     /// # Errors
     ///
-    /// `UnknownVariable` exactly where the name is not there, and `NoMemory`.
+    /// `UnknownVariable` exactly where the name is not there, `NotText` exactly where the variable holds a
+    /// formula, and `NoMemory`.
     pub fn text_of(&self, alloc: Global, name: &[u8], _now: &Numbers) -> Result<Text, VarFault>
         ensures text { IfOk result (λ text. text_in self.now name.now ≡ Ok text) }
         ensures refused { IfErr result (λ why. IsTextFault why (text_in self.now name.now)) }
     {
-        match find(&self.items, name) {
-            Some(variable) => Ok(variable.text(alloc)?),
+        match self.source(name) {
+            Some(source) => text_held(alloc, name, source),
             None => Err(VarFault::UnknownVariable(Text::from_bytes(alloc, name)?)),
         }
     }

@@ -1,12 +1,12 @@
 //! A variable under its name.
-ghost use Rattle.std.specs.Prelude.{◌≡◌, ◌+◌, ◌^◌, ◌<◌, ◌∷◌, Some, [], decimal, drop, is_some, IfOk};
+ghost use Rattle.std.specs.Prelude.{◌≡◌, ◌+◌, ◌^◌, ◌<◌, ◌∷◌, Some, [], drop, is_some};
 ghost use Rattle.std.specs.Bool.{OnTrue};
-ghost use Rattle.var_table.specs.Variables.{go_together, index_after, is_named, next_style, text_of_style, with_style};
+ghost use Rattle.var_table.specs.Told.{told};
+ghost use Rattle.var_table.specs.Variables.{first_of, go_together, held_by, index_after, is_named, next_style, with_style};
 
+use crate::source::Source;
 use crate::styles::VarStyle;
-use arrayvec::ArrayString;
-use fx_num::{NoMemory, Text, Words, print_whole};
-use std::alloc::Global;
+use fx_num::{Text, Words};
 use std::marker::Model;
 
 /// A variable under its name. Contracts see the values that it still has.
@@ -27,13 +27,14 @@ impl Model for Variable {
     ghost view = { λ v. record { name = v.name; style = left_of v.style v.past } };
 }
 
-/// A number in decimal digits.
-fn digits(alloc: Global, number: u32) -> Result<Text, NoMemory>
-    ensures { IfOk result (λ text. text ≡ decimal number) }
+/// The present value of an index variable, where so many are past.
+fn present(values: &Words, past: usize) -> &[u8]
+    ensures { result.now ≡ first_of (drop past values.now) }
 {
-    let mut out = ArrayString::new();
-    print_whole(u64::from(number), &mut out);
-    Text::from_bytes(alloc, out.as_str().as_bytes())
+    match values.as_slice().get(past) {
+        Some(value) => value.as_bytes(),
+        None => &[],
+    }
 }
 
 /// Whether an index variable has a value behind the present one, where so many are past.
@@ -71,17 +72,16 @@ impl Variable {
         self.past = 0;
     }
 
-    /// The text of the variable: its present value.
-    pub(crate) fn text(&self, alloc: Global) -> Result<Text, NoMemory>
-        ensures { IfOk result (λ text. text ≡ text_of_style self.now.style) }
+    /// What the variable holds now.
+    pub(crate) fn source(&self) -> Source<'_>
+        ensures { told result ≡ held_by self.now.style }
     {
         match &self.style {
-            VarStyle::Index(values) => match values.as_slice().get(self.past) {
-                Some(value) => value.copy(alloc),
-                None => Ok(Text::new(alloc)),
-            },
-            VarStyle::Loop { first, last: _ } => digits(alloc, *first),
-            VarStyle::Plain(text) => text.copy(alloc),
+            VarStyle::Index(values) => Source::Text(present(values, self.past)),
+            VarStyle::Loop { first, last: _ } => Source::Number(*first),
+            VarStyle::Equal(formula) => Source::Equal(formula.as_bytes()),
+            VarStyle::AtomWise(formula) => Source::AtomWise(formula.as_bytes()),
+            VarStyle::Plain(text) => Source::Text(text.as_bytes()),
         }
     }
 
@@ -116,7 +116,7 @@ impl Variable {
                 }
                 more
             }
-            VarStyle::Plain(_) => false,
+            VarStyle::Equal(_) | VarStyle::AtomWise(_) | VarStyle::Plain(_) => false,
         }
     }
 }

@@ -128,3 +128,8 @@ abbrev pub Answers : {X : Type 0} → Result X VarFault → Result X VarFault �
 Answers (Ok x) meant = meant ≡ Ok x
 Answers (Err var_fault.NoMemory) meant = Unit {0}
 Answers (Err why) meant = meant ≡ Err why
+
+-- want of memory is a fault of its own, and none of a formula
+abbrev pub IsOutright : VarFault → Type 0
+IsOutright (var_fault.Formula fault.NoMemory) = ⊥
+IsOutright why = Unit {0}

@@ -1,7 +1,7 @@
 //! The texts that stand for variables and formulas.
-ghost use Rattle.std.specs.Prelude.{◌≡◌, IfOk};
+ghost use Rattle.std.specs.Prelude.{◌≡◌, IfErr, IfOk};
 ghost use Rattle.fx_num.specs.Print.{value_text};
-ghost use Rattle.variable_values.specs.Values.{Answers, formula_text, text_of};
+ghost use Rattle.variable_values.specs.Values.{Answers, IsOutright, formula_text, text_of};
 
 use crate::known::Known;
 use crate::values::{formula_value, value_of};
@@ -27,7 +27,8 @@ fn shown(alloc: Global, value: i64) -> Result<Text, NoMemory>
 /// `Formula` with the fault of an equal variable, and `NoMemory`.
 #[tactic(auto, unfolding(crate::specs::Values::text_of))]
 pub fn text_of(alloc: Global, vars: &Vars, name: &[u8], state: &Numbers) -> Result<Text, VarFault>
-    ensures { Answers result (text_of vars.now state.now name.now) }
+    ensures is { Answers result (text_of vars.now state.now name.now) }
+    ensures outright { IfErr result IsOutright }
 {
     match vars.source(name) {
         Some(Source::Equal(_)) => {
@@ -52,7 +53,8 @@ pub fn formula_text(
     text: &[u8],
     state: &Numbers,
 ) -> Result<Text, VarFault>
-    ensures { Answers result (formula_text vars.now state.now text.now) }
+    ensures is { Answers result (formula_text vars.now state.now text.now) }
+    ensures outright { IfErr result IsOutright }
 {
     match formula_value(alloc, vars, text, state, 0) {
         Ok(value) => Ok(shown(alloc, value)?),

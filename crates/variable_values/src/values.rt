@@ -1,5 +1,5 @@
 //! The values of variables and formulas.
-ghost use Rattle.std.specs.Prelude.{◌≡◌, ◌+◌, ◌^◌, ◌≤◌, ℕ, unsigned_abs, IfOk};
+ghost use Rattle.std.specs.Prelude.{◌≡◌, ◌+◌, ◌^◌, ◌≤◌, ℕ, unsigned_abs, IfErr, IfOk};
 ghost use Rattle.box_geo.specs.declared.limits.TheConstants.{MAX_FORMULA_DEPTH};
 ghost use Rattle.formula.specs.Asked.{asked, fault_by, valued_by};
 ghost use Rattle.formula.specs.ByName.{Valued, a_level_in};
@@ -8,7 +8,7 @@ ghost use Rattle.fx_num.specs.Decimal.{read_number};
 ghost use Rattle.var_table.specs.Told.{told};
 ghost use Rattle.variable_values.specs.Known.{numbers_of};
 ghost use Rattle.variable_values.specs.Steps.{Gives, as_operand};
-ghost use Rattle.variable_values.specs.Values.{Answers, formula_by, formula_value, in_formula, known_value, number_under, number_value, operand_value, value_held, value_of, within};
+ghost use Rattle.variable_values.specs.Values.{Answers, IsOutright, formula_by, formula_value, in_formula, known_value, number_under, number_value, operand_value, value_held, value_of, within};
 
 use crate::known::{Known, in_units};
 use arrayvec::ArrayString;
@@ -210,6 +210,7 @@ fn in_variable(value: Result<i64, FormulaFault>) -> Result<i64, VarFault>
     requires { IfOk value (λ v. unsigned_abs v ≤ 2 ^ 62) }
     ensures is { (meant : Valued) → Gives value meant → Answers result (in_formula meant) }
     ensures bound { IfOk result (λ v. unsigned_abs v ≤ 2 ^ 62) }
+    ensures outright { IfErr result IsOutright }
 {
     match value {
         Ok(value) => Ok(value),
@@ -236,6 +237,7 @@ pub fn value_of(
 ) -> Result<i64, VarFault>
     ensures is { Answers result (value_of vars.now (numbers_of known.now) name.now depth) }
     ensures bound { IfOk result (λ v. unsigned_abs v ≤ 2 ^ 62) }
+    ensures outright { IfErr result IsOutright }
 {
     match vars.source(name) {
         Some(source) => in_variable(held_value(alloc, vars, known, name, source, depth)),
@@ -259,6 +261,7 @@ pub fn formula_value(
 ) -> Result<i64, VarFault>
     ensures is { Answers result (formula_value vars.now state.now text.now depth) }
     ensures bound { IfOk result (λ v. unsigned_abs v ≤ 2 ^ 62) }
+    ensures outright { IfErr result IsOutright }
 {
     in_variable(formula_number(alloc, vars, &Known::of_state(state), text, depth))
 }

@@ -16,7 +16,7 @@ use Rattle.formula.specs.Words.{words, keywords, has_name_mark, is_word_front}
 abbrev pub other_than : ℕ → ℕ → Bool
 other_than c x = not (x == c)
 
-and_false : (b : Bool) → (b && false) ≡ false
+pub and_false : (b : Bool) → (b && false) ≡ false
 and_false true = refl
 and_false false = refl
 
@@ -108,7 +108,7 @@ all_but text c never = list_all-append is_id_byte text (c ∷ []) ∙ rw never (
 no_id : (text : List ℕ) (c : ℕ) → is_id_byte c ≡ false → is_id (text ++ c ∷ []) ≡ false
 no_id text c never = rw (all_but text c never) (and_false (nat_le 1 (length (text ++ c ∷ [])) && nat_le (length (text ++ c ∷ [])) MAX_NAME_BYTES))
 
-either_false : (a b : Bool) → ((a && false) || (b && false)) ≡ false
+pub either_false : (a b : Bool) → ((a && false) || (b && false)) ≡ false
 either_false true true = refl
 either_false true false = refl
 either_false false true = refl
@@ -132,7 +132,7 @@ no_name (x ∷ y ∷ text) c other never =
     let long : (length (x ∷ y ∷ (text ++ c ∷ [])) == 2) ≡ false = ne_eqb (length (x ∷ y ∷ (text ++ c ∷ []))) 2 (λ same. omega (arith, same, some)) in
     rw long (rw (no_id text c never) (and_false (has_name_mark (x ∷ y ∷ (text ++ c ∷ [])))))
 
-word_ends : (text : List ℕ) (c : ℕ) → (95 == c) ≡ false → is_id_byte c ≡ false → list_all (list_all (other_than c)) words ≡ true → is_word_front (text ++ c ∷ []) ≡ false
+pub word_ends : (text : List ℕ) (c : ℕ) → (95 == c) ≡ false → is_id_byte c ≡ false → list_all (list_all (other_than c)) words ≡ true → is_word_front (text ++ c ∷ []) ≡ false
 unfolding goes_on_as_name
 word_ends text c other never without = rw (no_word c text words without) (no_name text c other never)
 

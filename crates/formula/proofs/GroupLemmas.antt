@@ -77,7 +77,7 @@ Rising (Call at f ∷ frames) = Rising frames
 Rising (Signed s ∷ frames) = (floor frames < 7) × Rising frames
 Rising (Left at o left ∷ frames) = Tight (level_of o) left × (floor frames < level_of o) × Rising frames
 
-level_bounds : (o : Operator) → (0 < level_of o) × (level_of o < 9)
+pub level_bounds : (o : Operator) → (0 < level_of o) × (level_of o < 9)
 level_bounds Or = (omega arith, omega arith)
 level_bounds And = (omega arith, omega arith)
 level_bounds Equal = (omega arith, omega arith)

@@ -1,9 +1,14 @@
 pub mod AskLemmas
 pub mod CloseLemmas
 pub mod FrontLemmas
+pub mod GrammarLemmas
 pub mod GroupLemmas
+pub mod LexemeLemmas
+pub mod NumberFronts
+pub mod NumberLemmas
 pub mod PowerLemmas
 pub mod ReadLemmas
 pub mod SpellLemmas
+pub mod TreeLemmas
 pub mod WordFronts
 pub mod WordLemmas

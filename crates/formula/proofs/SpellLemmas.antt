@@ -21,22 +21,22 @@ use Rattle.formula.specs.Numbers.{literal_of, is_number_front, begins_number}
 use Rattle.formula.specs.Spelling.{Lexeme, Literal, Name, FunctionName, OperatorMark, SignMark, Opening, Closing, operator_text, sign_text, is_unsigned, IsLexeme, Spells, and_blank, and_lexeme, spelling, spelling_step}
 use Rattle.formula.specs.Reading.{level_of, begins_pair, run, step, ok_or, finish, complete, whole, ended, close, joined, with_operator, signed, sign_of, is_blank, is_behind_power, after_need, after_call, after_operand, operated, operator_of, outside, second, pair_of, single_of, number_end, word_end, literal, called_by}
 
-spells_number : (place : ℕ) (units : Option ℤ) → spelling (expr.Number place units) ≡ Literal place units ∷ []
+pub spells_number : (place : ℕ) (units : Option ℤ) → spelling (expr.Number place units) ≡ Literal place units ∷ []
 spells_number place units = ap spelling (sym (expr.rolls-Number place units)) ∙ fold-roll-Expr (List Lexeme) spelling_step (Expr-F.Number place units)
 
-spells_named : (place : ℕ) (name : List ℕ) → spelling (expr.Named place name) ≡ Name place name ∷ []
+pub spells_named : (place : ℕ) (name : List ℕ) → spelling (expr.Named place name) ≡ Name place name ∷ []
 spells_named place name = ap spelling (sym (expr.rolls-Named place name)) ∙ fold-roll-Expr (List Lexeme) spelling_step (Expr-F.Named place name)
 
-spells_group : (inner : Expr) → spelling (expr.Group inner) ≡ Opening ∷ (spelling inner ++ Closing ∷ [])
+pub spells_group : (inner : Expr) → spelling (expr.Group inner) ≡ Opening ∷ (spelling inner ++ Closing ∷ [])
 spells_group inner = ap spelling (sym (expr.rolls-Group inner)) ∙ fold-roll-Expr (List Lexeme) spelling_step (Expr-F.Group inner)
 
-spells_call : (place : ℕ) (f : Function) (inner : Expr) → spelling (expr.Call place f inner) ≡ FunctionName place f ∷ (Opening ∷ (spelling inner ++ Closing ∷ []))
+pub spells_call : (place : ℕ) (f : Function) (inner : Expr) → spelling (expr.Call place f inner) ≡ FunctionName place f ∷ (Opening ∷ (spelling inner ++ Closing ∷ []))
 spells_call place f inner = ap spelling (sym (expr.rolls-Call place f inner)) ∙ fold-roll-Expr (List Lexeme) spelling_step (Expr-F.Call place f inner)
 
-spells_signed : (s : Sign) (inner : Expr) → spelling (expr.Signed s inner) ≡ SignMark s ∷ spelling inner
+pub spells_signed : (s : Sign) (inner : Expr) → spelling (expr.Signed s inner) ≡ SignMark s ∷ spelling inner
 spells_signed s inner = ap spelling (sym (expr.rolls-Signed s inner)) ∙ fold-roll-Expr (List Lexeme) spelling_step (Expr-F.Signed s inner)
 
-spells_binary : (place : ℕ) (o : Operator) (left right : Expr) → spelling (expr.Binary place o left right) ≡ spelling left ++ (OperatorMark place o ∷ spelling right)
+pub spells_binary : (place : ℕ) (o : Operator) (left right : Expr) → spelling (expr.Binary place o left right) ≡ spelling left ++ (OperatorMark place o ∷ spelling right)
 spells_binary place o left right = ap spelling (sym (expr.rolls-Binary place o left right)) ∙ fold-roll-Expr (List Lexeme) spelling_step (Expr-F.Binary place o left right)
 
 -- what was read before what is open now

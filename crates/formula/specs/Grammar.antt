@@ -1,9 +1,10 @@
--- How operators hold their operands: which of them a tree may have.
-use Rattle.std.specs.Prelude.{◌≡◌, ◌&&◌, nat_le, nat_lt, Bool, true, ℕ}
+-- The grammar of formulas: how operators hold their operands, and which text is which tree.
+use Rattle.std.specs.Prelude.{◌≡◌, ◌&&◌, nat_le, nat_lt, Bool, true, ℕ, List}
 use Rattle.formula.specs.declared.tree.Expr.{Expr}
 use Rattle.formula.specs.declared.tree.Expr.TheOpen.{Expr-F}
 use Rattle.formula.specs.declared.tree.Expr.TheFolds.{fold-Expr}
 use Rattle.formula.specs.Reading.{level_of, sign_level}
+use Rattle.formula.specs.Spelling.{Spells, spelling}
 
 -- how tightly a tree binds, and whether all in it is grouped so
 pub record Grouping : Type 0 where
@@ -30,3 +31,10 @@ grouping tree = fold-Expr Grouping grouping_step tree
 -- every operator of a tree holds operands that bind tightly enough
 abbrev pub IsGrouped : Expr → Type 0
 IsGrouped tree = (grouping tree).holds ≡ true
+
+-- The text is a formula and this is its tree: the lexemes of the text are those of the tree from left to right, each at the place that the tree
+-- keeps, and its operators hold operands that bind tightly enough. Blanks stand between lexemes alone, since no lexeme has one. An operator of two
+-- bytes is one lexeme, since its second byte alone is none.
+pub record IsFormula (text : List ℕ) (tree : Expr) : Type 0 where
+  pub spelled : Spells text (spelling tree)
+  pub grouped : IsGrouped tree

@@ -16,8 +16,8 @@ mod words;
 
 pub use arithmetic::{MAX_EXPONENT, exponent_limit_is_this_number};
 pub use laws::{
-    operands_are_asked_by_name, operators_group_by_their_levels, refused_at_the_first_wrong_byte,
-    texts_spell_their_trees,
+    exactly_the_grammar_is_parsed, operands_are_asked_by_name, operators_group_by_their_levels,
+    refused_at_the_first_wrong_byte, texts_of_the_grammar_are_read, texts_spell_their_trees,
 };
 pub use named::{NamedOperand, Operands, operands};
 pub use reading::parse;

@@ -12,4 +12,6 @@ mod numbers;
 #[cfg(test)]
 mod quotients;
 #[cfg(test)]
+mod values;
+#[cfg(test)]
 mod variables;

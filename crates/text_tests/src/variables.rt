@@ -3,7 +3,7 @@
 use fx_num::{NoMemory, Numbers, Text, VarFault, Words};
 use std::alloc::Global;
 use std::test::Fail;
-use var_table::{VarStyle, Vars};
+use var_table::{Source, VarStyle, Vars};
 
 fn words(alloc: Global, texts: &[&[u8]]) -> Result<Words, NoMemory> {
     let mut words = Words::new(alloc);
@@ -43,6 +43,22 @@ fn string(alloc: Global, vars: &mut Vars, name: &[u8], text: &[u8]) -> Result<()
         &Text::from_bytes(alloc, name)?,
         VarStyle::Plain(text),
     )
+}
+
+fn formula(
+    alloc: Global,
+    vars: &mut Vars,
+    name: &[u8],
+    text: &[u8],
+    each_atom: bool,
+) -> Result<(), NoMemory> {
+    let text = Text::from_bytes(alloc, text)?;
+    let style = if each_atom {
+        VarStyle::AtomWise(text)
+    } else {
+        VarStyle::Equal(text)
+    };
+    vars.define(alloc, &Text::from_bytes(alloc, name)?, style)
 }
 
 /// A fault as its name and the name of the variable.
@@ -144,5 +160,73 @@ fn next_takes_one_value_of_each_and_deletes_the_exhausted(rt: HostRuntime) -> Re
         assert_eq!(rt; next(alloc, &mut vars, names)?.as_bytes(), answer);
         assert_eq!(rt; told(alloc, &vars)?.as_bytes(), table);
     }
+    Ok(())
+}
+
+/// What a variable holds: a letter for what it is, and the text.
+fn held(alloc: Global, vars: &Vars, name: &[u8]) -> Result<Text, NoMemory> {
+    match vars.source(name) {
+        Some(Source::Text(text)) => marked(alloc, b"t ", text),
+        Some(Source::Number(9)) => Text::from_bytes(alloc, b"n 9"),
+        Some(Source::Number(_)) => Text::from_bytes(alloc, b"n"),
+        Some(Source::Equal(text)) => marked(alloc, b"e ", text),
+        Some(Source::AtomWise(text)) => marked(alloc, b"a ", text),
+        None => Ok(Text::new(alloc)),
+    }
+}
+
+fn marked(alloc: Global, mark: &[u8], text: &[u8]) -> Result<Text, NoMemory> {
+    let mut out = Text::from_bytes(alloc, mark)?;
+    out.push(text)?;
+    Ok(out)
+}
+
+/// What variables hold at first.
+const HELD: &[(&str, &str)] = &[
+    ("a", "t p"),
+    ("i", "n 9"),
+    ("b", "e 1+2"),
+    ("j", "a id"),
+    ("s", "t z"),
+    ("c", ""),
+];
+
+/// What they hold after new definitions over other styles.
+const HELD_ANEW: &[(&str, &str)] = &[("a", "a 2"), ("i", "e 3"), ("b", "e 1+2"), ("j", "t t")];
+
+/// Whether the variables hold this.
+fn hold(alloc: Global, vars: &Vars, table: &[(&str, &str)]) -> Result<bool, NoMemory> {
+    for (name, want) in table {
+        if held(alloc, vars, name.as_bytes())?.as_bytes() != want.as_bytes() {
+            return Ok(false);
+        }
+    }
+    Ok(true)
+}
+
+#[test]
+fn formulas_define_anew_and_have_neither_texts_nor_a_next(rt: HostRuntime) -> Result<(), Fail> {
+    let alloc = rt.alloc();
+    let mut vars = Vars::new(alloc)?;
+    index(alloc, &mut vars, b"a", &[b"p".as_slice(), b"q"])?;
+    counter(alloc, &mut vars, b"i", 9, 10)?;
+    formula(alloc, &mut vars, b"b", b"1+2", false)?;
+    formula(alloc, &mut vars, b"j", b"id", true)?;
+    string(alloc, &mut vars, b"s", b"z")?;
+    assert_eq!(rt; told(alloc, &vars)?.as_bytes(), b"p|?|9|?|z|".as_slice());
+    assert_eq!(rt;
+        next(alloc, &mut vars, &[b"a", b"b"])?.as_bytes(),
+        b"mixed b".as_slice()
+    );
+    assert_eq!(rt;
+        next(alloc, &mut vars, &[b"j"])?.as_bytes(),
+        b"mixed j".as_slice()
+    );
+    assert!(rt; hold(alloc, &vars, HELD)?);
+    index(alloc, &mut vars, b"b", &[b"7".as_slice()])?;
+    formula(alloc, &mut vars, b"a", b"2", true)?;
+    formula(alloc, &mut vars, b"i", b"3", false)?;
+    string(alloc, &mut vars, b"j", b"t")?;
+    assert!(rt; hold(alloc, &vars, HELD_ANEW)?);
     Ok(())
 }

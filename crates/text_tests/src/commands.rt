@@ -6,6 +6,190 @@ use std::alloc::Global;
 /// One is 2^24 units.
 const ONE: i64 = 1 << 24;
 
+/// What a line must be read as.
+#[derive(Clone, Copy, Debug, PartialEq, Eq)]
+enum Want {
+    /// No command, for this reason.
+    Refused(WordRefusal),
+    /// The command of this name.
+    Named(&'static str),
+    /// A command with these numbers, by [`numbers`].
+    Numbers([i64; 4]),
+    /// A command with this text, by [`text`].
+    Text(&'static str),
+    /// An `if` with so many branches, and so many commands in its `else`.
+    Branches(usize, usize),
+}
+
+use Want::{Branches, Named, Numbers, Refused, Text as Texts};
+
+const ROWS: &[(&str, Want)] = &[
+    // lines that are refused, with the first code that fits
+    ("unit lj", Refused(WordRefusal::UnknownCommand)),
+    ("Run 0", Refused(WordRefusal::UnknownCommand)),
+    ("minimize 1 2", Refused(WordRefusal::UnknownCommand)),
+    ("units", Refused(WordRefusal::WordCount)),
+    ("boundary p q", Refused(WordRefusal::WordCount)),
+    ("pair_modify shift", Refused(WordRefusal::WordCount)),
+    (
+        "create_box 99 b bond/types",
+        Refused(WordRefusal::WordCount),
+    ),
+    ("region r block 0", Refused(WordRefusal::WordCount)),
+    ("fix 1 all setforce 0", Refused(WordRefusal::WordCount)),
+    ("restart 5 a", Refused(WordRefusal::WordCount)),
+    ("if 1 then", Refused(WordRefusal::WordCount)),
+    ("quit now", Refused(WordRefusal::WordCount)),
+    ("units metal", Refused(WordRefusal::BadWord(1))),
+    ("dimension 2.0", Refused(WordRefusal::BadWord(1))),
+    ("boundary p p s", Refused(WordRefusal::BadWord(3))),
+    ("region r union 0 a", Refused(WordRefusal::BadWord(3))),
+    ("region r union 3 a b", Refused(WordRefusal::BadWord(6))),
+    (
+        "region r block 0 1 0 1 0 x",
+        Refused(WordRefusal::BadWord(8)),
+    ),
+    (
+        "velocity all zero linear units box",
+        Refused(WordRefusal::BadWord(4)),
+    ),
+    ("restart 5", Refused(WordRefusal::BadWord(2))),
+    ("restart 7 a a", Refused(WordRefusal::BadWord(3))),
+    (
+        "fix f all ave/time 2 3 10 k",
+        Refused(WordRefusal::BadWord(7)),
+    ),
+    ("compute c g pe", Refused(WordRefusal::BadWord(3))),
+    (
+        "thermo_style custom step foo",
+        Refused(WordRefusal::BadWord(3)),
+    ),
+    ("label a-b", Refused(WordRefusal::BadWord(1))),
+    ("if else then print", Refused(WordRefusal::BadWord(1))),
+    ("if 1 then print else", Refused(WordRefusal::BadWord(5))),
+    ("pair_coeff 0 1 x 1", Refused(WordRefusal::BadWord(3))),
+    ("run 1e3", Refused(WordRefusal::BadWord(1))),
+    (
+        "create_box 1 b bond/types 2 color 3",
+        Refused(WordRefusal::BadWord(5)),
+    ),
+    ("dimension 4", Refused(WordRefusal::BadValue(1))),
+    ("pair_style lj/cut 0", Refused(WordRefusal::BadValue(2))),
+    ("pair_coeff 1 1 1 8 1.9", Refused(WordRefusal::BadValue(5))),
+    ("pair_coeff 1 65* 1 1", Refused(WordRefusal::BadValue(2))),
+    ("processors 8 8 9", Refused(WordRefusal::BadValue(3))),
+    ("variable i loop 5 2", Refused(WordRefusal::BadValue(4))),
+    ("variable i loop 0", Refused(WordRefusal::BadValue(3))),
+    (
+        "fix f all ave/time 3 2 10 c_k",
+        Refused(WordRefusal::BadValue(6)),
+    ),
+    (
+        "fix f all ave/time 2 6 10 c_k",
+        Refused(WordRefusal::BadValue(6)),
+    ),
+    (
+        "create_box 1 b bond/types 99 bond/types 1",
+        Refused(WordRefusal::BadValue(4)),
+    ),
+    ("group g id 7 1:5:0", Refused(WordRefusal::BadValue(4))),
+    ("run 274877906945", Refused(WordRefusal::BadValue(1))),
+    ("velocity all create 1 0", Refused(WordRefusal::BadValue(4))),
+    ("mass 1 1e999", Refused(WordRefusal::BadValue(2))),
+    (
+        "velocity g set NULL 1 1e999 units box",
+        Refused(WordRefusal::BadValue(5)),
+    ),
+    // one line of each form
+    ("units lj", Named("units")),
+    ("dimension 02", Named("dimension")),
+    ("newton", Named("newton")),
+    ("echo both or none", Named("echo")),
+    ("atom_style bond", Named("atom_style")),
+    ("lattice sq2 0.8442", Named("lattice")),
+    ("region r sphere 1 2 3 -4 side out", Named("region")),
+    (
+        "region r intersect 1 a units lattice side in",
+        Named("region"),
+    ),
+    (
+        "create_atoms 1 single 0 0 0 units box",
+        Named("create_atoms"),
+    ),
+    ("restart 0", Named("restart")),
+    ("restart 0 a b", Named("restart")),
+    ("read_restart a a", Named("read_restart")),
+    ("mass * 1.0", Named("mass")),
+    ("pair_coeff 1 1 1e0 +1", Named("pair_coeff")),
+    (
+        "pair_modify shift no mix arithmetic tail no",
+        Named("pair_modify"),
+    ),
+    ("special_bonds lj/coul 0.0 1e0 0.5", Named("special_bonds")),
+    ("bond_style harmonic", Named("bond_style")),
+    (
+        "neigh_modify every 20 delay 0 check no",
+        Named("neigh_modify"),
+    ),
+    ("comm_modify cutoff 0", Named("comm_modify")),
+    ("velocity all zero linear", Named("velocity")),
+    ("fix e all external pf/callback 1 1", Named("fix")),
+    ("compute c all pressure thermo_temp", Named("compute")),
+    ("thermo_style custom step c_k emol", Named("thermo_style")),
+    ("thermo_modify lost error norm no", Named("thermo_modify")),
+    ("dump d all custom 0 f.txt id xs vz", Named("dump")),
+    ("dump_modify d sort id", Named("dump_modify")),
+    ("reset_timestep 274877906944", Named("reset_timestep")),
+    ("print x", Named("print")),
+    ("log none", Named("log")),
+    ("variable x index a b", Named("variable")),
+    ("variable x delete", Named("variable")),
+    ("next x y", Named("next")),
+    ("jump SELF top", Named("jump")),
+    ("if a then b elif c d e elif f g else h", Named("if")),
+    ("clear", Named("clear")),
+    ("quit", Named("quit")),
+    ("boundary p f pp", Named("boundary")),
+    ("atom_modify map array", Named("atom_modify")),
+    ("write_data a", Named("write_data")),
+    ("write_restart a", Named("write_restart")),
+    ("group g union a b", Named("group")),
+    ("angle_style cosine", Named("angle_style")),
+    ("angle_coeff * 1", Named("angle_coeff")),
+    ("uncompute c", Named("uncompute")),
+    ("thermo 0", Named("thermo")),
+    ("undump d", Named("undump")),
+    ("run 0 upto", Named("run")),
+    ("label top", Named("label")),
+    ("include f", Named("include")),
+    // numbers, in units
+    ("dimension 3", Numbers([3, 0, 0, 0])),
+    ("processors * 8 64", Numbers([1, 8, 64, 0])),
+    ("lattice fcc 0.5", Numbers([1 << 23, 0, 0, 0])),
+    (
+        "create_box 2 b bond/types 9 angle/types 3 bond/types 64",
+        Numbers([2, 64, 3, 0]),
+    ),
+    ("pair_style lj/cut 2.5", Numbers([41943040, 0, 0, 0])),
+    ("special_bonds lj 0 0.5 1", Numbers([0, 1 << 23, ONE, 0])),
+    ("bond_coeff 3* 30 1", Numbers([3, 30 << 24, ONE, 0])),
+    ("neighbor 0.3 bin", Numbers([5033165, 0, 0, 0])),
+    ("timestep 0.005", Numbers([83886, 0, 0, 0])),
+    // texts, as they are written
+    ("read_data in.data", Texts("in.data")),
+    ("unfix n_1", Texts("n_1")),
+    ("print a$b", Texts("a$b")),
+    ("log none", Texts("")),
+    ("log l.txt", Texts("l.txt")),
+    ("fix f g setforce 0 NULL -1", Texts("g")),
+    ("compute k g ke", Texts("k")),
+    ("dump d g atom 5 d.txt", Texts("d.txt")),
+    ("variable v loop 0 2", Texts("v")),
+    ("velocity g set NULL 1 0 units box", Texts("g")),
+    ("region r block 0 INF EDGE 1 -1 2 side out", Texts("r")),
+    ("if a then b elif c d e elif f g else h i j", Branches(3, 3)),
+];
+
 /// The words of a line, which one space parts.
 fn words_of(alloc: Global, line: &str) -> Result<Words, NoMemory> {
     let mut words = Seq::new(alloc);
@@ -13,86 +197,6 @@ fn words_of(alloc: Global, line: &str) -> Result<Words, NoMemory> {
         words.push(Text::from_bytes(alloc, word)?)?;
     }
     Ok(words)
-}
-
-/// What a line is read as.
-fn read(alloc: Global, line: &str) -> Result<Command, WordRefusal> {
-    let words = words_of(alloc, line)?;
-    read_command(alloc, &words)
-}
-
-/// Why a line is no command.
-fn refusal(alloc: Global, line: &str) -> Option<WordRefusal> {
-    match read(alloc, line) {
-        Ok(_) => None,
-        Err(why) => Some(why),
-    }
-}
-
-#[test]
-fn lines_are_refused_with_the_first_code_that_fits(rt: HostRuntime) {
-    let rows = [
-        ("unit lj", WordRefusal::UnknownCommand),
-        ("Run 0", WordRefusal::UnknownCommand),
-        ("minimize 1 2", WordRefusal::UnknownCommand),
-        ("units", WordRefusal::WordCount),
-        ("boundary p q", WordRefusal::WordCount),
-        ("pair_modify shift", WordRefusal::WordCount),
-        ("create_box 99 b bond/types", WordRefusal::WordCount),
-        ("region r block 0", WordRefusal::WordCount),
-        ("fix 1 all setforce 0", WordRefusal::WordCount),
-        ("restart 5 a", WordRefusal::WordCount),
-        ("if 1 then", WordRefusal::WordCount),
-        ("quit now", WordRefusal::WordCount),
-        ("units metal", WordRefusal::BadWord(1)),
-        ("dimension 2.0", WordRefusal::BadWord(1)),
-        ("boundary p p s", WordRefusal::BadWord(3)),
-        ("region r union 0 a", WordRefusal::BadWord(3)),
-        ("region r union 3 a b", WordRefusal::BadWord(6)),
-        ("region r block 0 1 0 1 0 x", WordRefusal::BadWord(8)),
-        (
-            "velocity all zero linear units box",
-            WordRefusal::BadWord(4),
-        ),
-        ("restart 5", WordRefusal::BadWord(2)),
-        ("restart 7 a a", WordRefusal::BadWord(3)),
-        ("fix f all ave/time 2 3 10 k", WordRefusal::BadWord(7)),
-        ("compute c g pe", WordRefusal::BadWord(3)),
-        ("thermo_style custom step foo", WordRefusal::BadWord(3)),
-        ("label a-b", WordRefusal::BadWord(1)),
-        ("if else then print", WordRefusal::BadWord(1)),
-        ("if 1 then print else", WordRefusal::BadWord(5)),
-        ("pair_coeff 0 1 x 1", WordRefusal::BadWord(3)),
-        ("run 1e3", WordRefusal::BadWord(1)),
-        (
-            "create_box 1 b bond/types 2 color 3",
-            WordRefusal::BadWord(5),
-        ),
-        ("dimension 4", WordRefusal::BadValue(1)),
-        ("pair_style lj/cut 0", WordRefusal::BadValue(2)),
-        ("pair_coeff 1 1 1 8 1.9", WordRefusal::BadValue(5)),
-        ("pair_coeff 1 65* 1 1", WordRefusal::BadValue(2)),
-        ("processors 8 8 9", WordRefusal::BadValue(3)),
-        ("variable i loop 5 2", WordRefusal::BadValue(4)),
-        ("variable i loop 0", WordRefusal::BadValue(3)),
-        ("fix f all ave/time 3 2 10 c_k", WordRefusal::BadValue(6)),
-        ("fix f all ave/time 2 6 10 c_k", WordRefusal::BadValue(6)),
-        (
-            "create_box 1 b bond/types 99 bond/types 1",
-            WordRefusal::BadValue(4),
-        ),
-        ("group g id 7 1:5:0", WordRefusal::BadValue(4)),
-        ("run 274877906945", WordRefusal::BadValue(1)),
-        ("velocity all create 1 0", WordRefusal::BadValue(4)),
-        ("mass 1 1e999", WordRefusal::BadValue(2)),
-        (
-            "velocity g set NULL 1 1e999 units box",
-            WordRefusal::BadValue(5),
-        ),
-    ];
-    for (line, want) in rows {
-        assert_eq!(rt; refusal(rt.alloc(), line), Some(want), "{line}");
-    }
 }
 
 /// The name of a command.
@@ -155,75 +259,6 @@ fn name(command: &Command) -> &'static str {
     }
 }
 
-/// Whether a text is the first of the words.
-fn is_first(text: &str, words: &Words) -> bool {
-    match words.as_slice() {
-        [word, ..] => word.as_bytes() == text.as_bytes(),
-        [] => false,
-    }
-}
-
-#[test]
-fn lines_of_forms_are_read(rt: HostRuntime) -> Result<(), WordRefusal> {
-    let rows = [
-        "units lj",
-        "dimension 02",
-        "newton",
-        "echo both or none",
-        "atom_style bond",
-        "lattice sq2 0.8442",
-        "region r sphere 1 2 3 -4 side out",
-        "region r intersect 1 a units lattice side in",
-        "create_atoms 1 single 0 0 0 units box",
-        "restart 0",
-        "restart 0 a b",
-        "read_restart a a",
-        "mass * 1.0",
-        "pair_coeff 1 1 1e0 +1",
-        "pair_modify shift no mix arithmetic tail no",
-        "special_bonds lj/coul 0.0 1e0 0.5",
-        "bond_style harmonic",
-        "neigh_modify every 20 delay 0 check no",
-        "comm_modify cutoff 0",
-        "velocity all zero linear",
-        "fix e all external pf/callback 1 1",
-        "compute c all pressure thermo_temp",
-        "thermo_style custom step c_k emol",
-        "thermo_modify lost error norm no",
-        "dump d all custom 0 f.txt id xs vz",
-        "dump_modify d sort id",
-        "reset_timestep 274877906944",
-        "print x",
-        "log none",
-        "variable x index a b",
-        "variable x delete",
-        "next x y",
-        "jump SELF top",
-        "if a then b elif c d e elif f g else h",
-        "clear",
-        "quit",
-        "boundary p f pp",
-        "atom_modify map array",
-        "write_data a",
-        "write_restart a",
-        "group g union a b",
-        "angle_style cosine",
-        "angle_coeff * 1",
-        "uncompute c",
-        "thermo 0",
-        "undump d",
-        "run 0 upto",
-        "label top",
-        "include f",
-    ];
-    for line in rows {
-        let words = words_of(rt.alloc(), line)?;
-        let command = read_command(rt.alloc(), &words)?;
-        assert!(rt; is_first(name(&command), &words), "{line}");
-    }
-    Ok(())
-}
-
 /// The numbers of a command that has some; none of another.
 fn numbers(command: &Command) -> [i64; 4] {
     match command {
@@ -250,74 +285,56 @@ fn numbers(command: &Command) -> [i64; 4] {
     }
 }
 
-#[test]
-fn numbers_are_in_units(rt: HostRuntime) -> Result<(), WordRefusal> {
-    let rows = [
-        ("dimension 3", [3, 0, 0, 0]),
-        ("processors * 8 64", [1, 8, 64, 0]),
-        ("lattice fcc 0.5", [1 << 23, 0, 0, 0]),
-        (
-            "create_box 2 b bond/types 9 angle/types 3 bond/types 64",
-            [2, 64, 3, 0],
-        ),
-        ("pair_style lj/cut 2.5", [41943040, 0, 0, 0]),
-        ("special_bonds lj 0 0.5 1", [0, 1 << 23, ONE, 0]),
-        ("bond_coeff 3* 30 1", [3, 30 << 24, ONE, 0]),
-        ("neighbor 0.3 bin", [5033165, 0, 0, 0]),
-        ("timestep 0.005", [83886, 0, 0, 0]),
-    ];
-    for (line, want) in rows {
-        let command = read(rt.alloc(), line)?;
-        assert_eq!(rt; numbers(&command), want, "{line}");
+/// A text of a command that has some; none of another.
+fn text(command: &Command) -> &[u8] {
+    match command {
+        Command::ReadData(file) => file.as_bytes(),
+        Command::Unfix(id) => id.as_bytes(),
+        Command::Print(text) => text.as_bytes(),
+        Command::Log(Some(file)) => file.as_bytes(),
+        Command::Fix(fix) => fix.group.as_bytes(),
+        Command::Compute(compute) => compute.id.as_bytes(),
+        Command::Dump(dump) => dump.file.as_bytes(),
+        Command::Variable(variable) => variable.name.as_bytes(),
+        Command::Velocity(velocity) => velocity.group.as_bytes(),
+        Command::Region(region) => region.id.as_bytes(),
+        _ => b"",
     }
-    Ok(())
 }
 
-/// How many branches an `if` has, and how many commands its `else`.
-fn branch_counts(command: Command) -> (usize, usize) {
+/// How many branches an `if` has, and how many commands its `else`; none of another command.
+fn branches(command: &Command) -> (usize, usize) {
     match command {
         Command::If(choice) => (choice.branches.len(), choice.otherwise.len()),
         _ => (0, 0),
     }
 }
 
-/// The texts of a command that has some; empty for another.
-fn first_text(alloc: Global, command: Command) -> Result<Text, NoMemory> {
-    match command {
-        Command::ReadData(file) => Ok(file),
-        Command::Unfix(id) => Ok(id),
-        Command::Print(text) => Ok(text),
-        Command::Log(Some(file)) => Ok(file),
-        Command::Fix(fix) => Ok(fix.group),
-        Command::Compute(compute) => Ok(compute.id),
-        Command::Dump(dump) => Ok(dump.file),
-        Command::Variable(variable) => Ok(variable.name),
-        Command::Velocity(velocity) => Ok(velocity.group),
-        Command::Region(region) => Ok(region.id),
-        _ => Ok(Text::new(alloc)),
+/// Whether a command is what a line must be read as.
+fn is_as_wanted(command: &Command, want: Want) -> bool {
+    match want {
+        Refused(_) => false,
+        Named(wanted) => name(command) == wanted,
+        Numbers(wanted) => numbers(command) == wanted,
+        Texts(wanted) => text(command) == wanted.as_bytes(),
+        Branches(some, others) => branches(command) == (some, others),
     }
 }
 
+/// Whether a line is read as it must be.
+fn is_read_as(alloc: Global, line: &str, want: Want) -> Result<bool, NoMemory> {
+    let words = words_of(alloc, line)?;
+    Ok(match read_command(alloc, &words) {
+        Ok(command) => is_as_wanted(&command, want),
+        Err(why) => want == Refused(why),
+    })
+}
+
 #[test]
-fn texts_stand_as_they_are_written(rt: HostRuntime) -> Result<(), WordRefusal> {
-    let rows = [
-        ("read_data in.data", "in.data"),
-        ("unfix n_1", "n_1"),
-        ("print a$b", "a$b"),
-        ("log none", ""),
-        ("log l.txt", "l.txt"),
-        ("fix f g setforce 0 NULL -1", "g"),
-        ("compute k g ke", "k"),
-        ("dump d g atom 5 d.txt", "d.txt"),
-        ("variable v loop 0 2", "v"),
-        ("velocity g set NULL 1 0 units box", "g"),
-        ("region r block 0 INF EDGE 1 -1 2 side out", "r"),
-    ];
-    for (line, want) in rows {
-        let text = first_text(rt.alloc(), read(rt.alloc(), line)?)?;
-        assert_eq!(rt; text.as_bytes(), want.as_bytes(), "{line}");
+fn lines_are_commands_or_refused(rt: HostRuntime) -> Result<(), NoMemory> {
+    for (line, want) in ROWS {
+        let holds = is_read_as(rt.alloc(), line, *want)?;
+        assert!(rt; holds, "{line}");
     }
-    let choice = read(rt.alloc(), "if a then b elif c d e elif f g else h i j")?;
-    assert_eq!(rt; branch_counts(choice), (3, 3));
     Ok(())
 }

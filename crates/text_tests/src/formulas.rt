@@ -35,73 +35,69 @@ fn told(alloc: Global, text: &[u8], values: &[i128]) -> Result<i64, Why> {
 
 const ONE: i64 = 1 << 24;
 
+const VALUES: &[(&str, Result<i64, Why>)] = &[
+    // 0.99999994
+    ("1/3*3", Ok(16_777_215)),
+    ("-7%3", Ok(-ONE)),
+    ("2^38", Ok(1 << 62)),
+    ("2^39", Err(Why::Range(1))),
+    ("7%0", Err(Why::DivideByZero(1))),
+    ("-2^2", Ok(-4 * ONE)),
+    ("2^3^2", Ok(64 * ONE)),
+    ("7-2-1", Ok(4 * ONE)),
+    ("2+3*4", Ok(14 * ONE)),
+    ("1 < 2 == 1", Ok(ONE)),
+    ("1 <= 2 && 0 || !0", Ok(ONE)),
+    ("0 && 1/0", Err(Why::DivideByZero(6))),
+    ("1/(1-1) + 2^39", Err(Why::DivideByZero(1))),
+    ("floor(-1.5) + ceil(0.5) * round(-0.5)", Ok(-3 * ONE)),
+    ("sqrt(16) - abs(-4)", Ok(0)),
+    ("sqrt(-1)", Err(Why::Range(0))),
+    ("2^0.5", Err(Why::Range(1))),
+    ("2^64.5", Err(Why::Range(1))),
+    ("1^65", Err(Why::Range(1))),
+    ("1 + 3e11", Err(Why::Range(4))),
+    ("-1/-3", Ok(5_592_405)),
+    ("3e0 >= .3E1", Ok(ONE)),
+];
+
 #[test]
 fn formulas_have_exact_values(rt: HostRuntime) {
-    let table = [
-        // 0.99999994
-        ("1/3*3", Ok(16_777_215)),
-        ("-7%3", Ok(-ONE)),
-        ("2^38", Ok(1 << 62)),
-        ("2^39", Err(Why::Range(1))),
-        ("7%0", Err(Why::DivideByZero(1))),
-        ("-2^2", Ok(-4 * ONE)),
-        ("2^3^2", Ok(64 * ONE)),
-        ("7-2-1", Ok(4 * ONE)),
-        ("2+3*4", Ok(14 * ONE)),
-        ("1 < 2 == 1", Ok(ONE)),
-        ("1 <= 2 && 0 || !0", Ok(ONE)),
-        ("0 && 1/0", Err(Why::DivideByZero(6))),
-        ("1/(1-1) + 2^39", Err(Why::DivideByZero(1))),
-        ("floor(-1.5) + ceil(0.5) * round(-0.5)", Ok(-3 * ONE)),
-        ("sqrt(16) - abs(-4)", Ok(0)),
-        ("sqrt(-1)", Err(Why::Range(0))),
-        ("2^0.5", Err(Why::Range(1))),
-        ("2^64.5", Err(Why::Range(1))),
-        ("1^65", Err(Why::Range(1))),
-        ("1 + 3e11", Err(Why::Range(4))),
-        ("-1/-3", Ok(5_592_405)),
-        ("3e0 >= .3E1", Ok(ONE)),
-    ];
-    for (text, want) in table {
-        assert_eq!(rt;
-            told(rt.alloc(), text.as_bytes(), [].as_slice()),
-            want,
-            "{text}"
-        );
+    for (text, want) in VALUES {
+        let want = *want;
+        assert_eq!(rt; told(rt.alloc(), text.as_bytes(), &[]), want, "{text}");
     }
 }
 
+const REFUSED: &[(&str, u32)] = &[
+    ("", 0),
+    ("  ", 2),
+    ("1+", 2),
+    ("foo", 1),
+    ("Step", 0),
+    ("stepp", 4),
+    ("sqrt 4", 5),
+    ("sqrt", 4),
+    ("2^-1", 2),
+    ("1 2", 2),
+    ("1 = 2", 3),
+    ("1 < = 2", 4),
+    ("1)", 1),
+    ("(1", 2),
+    ("1.2.3", 3),
+    ("1e1234", 5),
+    ("1234567890123456789012345", 24),
+    ("v_", 2),
+    ("v_a-b", 4),
+    ("v_a-x.", 5),
+    ("+1", 0),
+];
+
 #[test]
 fn refused_at_the_first_byte_that_no_formula_has(rt: HostRuntime) {
-    let table = [
-        ("", 0),
-        ("  ", 2),
-        ("1+", 2),
-        ("foo", 1),
-        ("Step", 0),
-        ("stepp", 4),
-        ("sqrt 4", 5),
-        ("sqrt", 4),
-        ("2^-1", 2),
-        ("1 2", 2),
-        ("1 = 2", 3),
-        ("1 < = 2", 4),
-        ("1)", 1),
-        ("(1", 2),
-        ("1.2.3", 3),
-        ("1e1234", 5),
-        ("1234567890123456789012345", 24),
-        ("v_", 2),
-        ("v_a-b", 4),
-        ("v_a-x.", 5),
-        ("+1", 0),
-    ];
-    for (text, at) in table {
-        assert_eq!(rt;
-            told(rt.alloc(), text.as_bytes(), [].as_slice()),
-            Err(Why::Syntax(at)),
-            "{text}"
-        );
+    for (text, at) in REFUSED {
+        let want = Err(Why::Syntax(*at));
+        assert_eq!(rt; told(rt.alloc(), text.as_bytes(), &[]), want, "{text}");
     }
 }
 

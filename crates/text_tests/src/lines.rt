@@ -96,54 +96,55 @@ fn told(alloc: Global, text: &[u8]) -> Result<Text, NoMemory> {
     Ok(out)
 }
 
+const LINES: &[(&[u8], &[u8])] = &[
+    (
+        b"variable x index 7\nprint \"a # b $x\" # note\nprint 'one &\ntwo'\nprint \"\"\"three \"quoted\" words\"\"\"\nrun 0 &\n",
+        b"1<variable><x><index><7>2<print>[a # b $x]3<print>[one two]5<print>[three \"quoted\" words]C6",
+    ),
+    (b"", b"."),
+    (b"\n \t\n# only a comment\n", b"."),
+    (b"run 0", b"1<run><0>."),
+    (b"\r\n\r\nrun 0\r\nrun 1\r", b"3<run><0>4<run><1\r>."),
+    (b"run 0\r\r\n", b"1<run><0\r>."),
+    (b"run& 0 & \t\n  1 &\n2\nx", b"1<run&><0><1><2>4<x>."),
+    (b"run 0 # note &\n1\nx", b"1<run><0>3<x>."),
+    (b"run 0 &\r\n1", b"1<run><0><1>."),
+    (b"&\n&", b"C1"),
+    (b"a\nb &\nc &\n", b"1<a>C2"),
+    (
+        b"print \"\"\"a &\nb # c\"\"\" d",
+        b"1<print>[a &\nb # c]<d>.",
+    ),
+    (
+        b"print \"\"\"a\n\n\"\"b\"\"\"\nx",
+        b"1<print>[a\n\n\"\"b]4<x>.",
+    ),
+    (
+        b"print \"\" '' \"\"\"\"\"\" a\"b 'c \"d' \"e 'f\"",
+        b"1<print>[][][]<a\"b>[c \"d][e 'f].",
+    ),
+    (b"\n\nprint \"a\nb\"", b"U3"),
+    (b"print 'a\n", b"U1"),
+    (b"x\nprint \"\"\"a\nb\n", b"1<x>U2"),
+    (b"print \"a\"b", b"Q1"),
+    (b"print \"a\"b 'c", b"Q1"),
+    (b"print \"a\"b &", b"C1"),
+    (b"print \"a\"# b", b"1<print>[a]."),
+    (
+        b"print $(1 + (2 * 3)) x$( \"a\" )y ",
+        b"1<print><$(1 + (2 * 3))><x$( \"a\" )y>.",
+    ),
+    (
+        b"print $(1 + (2 * 3) 'x y'",
+        b"1<print><$(1><+><(2><*><3)>[x y].",
+    ),
+    (b"print $(1 # 2)", b"1<print><$(1>."),
+];
+
 #[test]
 fn lines_are_joined_and_cut_into_words(rt: HostRuntime) -> Result<(), Fail> {
-    let cases: [(&[u8], &[u8]); 24] = [
-        (
-            b"variable x index 7\nprint \"a # b $x\" # note\nprint 'one &\ntwo'\nprint \"\"\"three \"quoted\" words\"\"\"\nrun 0 &\n",
-            b"1<variable><x><index><7>2<print>[a # b $x]3<print>[one two]5<print>[three \"quoted\" words]C6",
-        ),
-        (b"", b"."),
-        (b"\n \t\n# only a comment\n", b"."),
-        (b"run 0", b"1<run><0>."),
-        (b"\r\n\r\nrun 0\r\nrun 1\r", b"3<run><0>4<run><1\r>."),
-        (b"run 0\r\r\n", b"1<run><0\r>."),
-        (b"run& 0 & \t\n  1 &\n2\nx", b"1<run&><0><1><2>4<x>."),
-        (b"run 0 # note &\n1\nx", b"1<run><0>3<x>."),
-        (b"run 0 &\r\n1", b"1<run><0><1>."),
-        (b"&\n&", b"C1"),
-        (b"a\nb &\nc &\n", b"1<a>C2"),
-        (
-            b"print \"\"\"a &\nb # c\"\"\" d",
-            b"1<print>[a &\nb # c]<d>.",
-        ),
-        (
-            b"print \"\"\"a\n\n\"\"b\"\"\"\nx",
-            b"1<print>[a\n\n\"\"b]4<x>.",
-        ),
-        (
-            b"print \"\" '' \"\"\"\"\"\" a\"b 'c \"d' \"e 'f\"",
-            b"1<print>[][][]<a\"b>[c \"d][e 'f].",
-        ),
-        (b"\n\nprint \"a\nb\"", b"U3"),
-        (b"print 'a\n", b"U1"),
-        (b"x\nprint \"\"\"a\nb\n", b"1<x>U2"),
-        (b"print \"a\"b", b"Q1"),
-        (b"print \"a\"b 'c", b"Q1"),
-        (b"print \"a\"b &", b"C1"),
-        (b"print \"a\"# b", b"1<print>[a]."),
-        (
-            b"print $(1 + (2 * 3)) x$( \"a\" )y ",
-            b"1<print><$(1 + (2 * 3))><x$( \"a\" )y>.",
-        ),
-        (
-            b"print $(1 + (2 * 3) 'x y'",
-            b"1<print><$(1><+><(2><*><3)>[x y].",
-        ),
-        (b"print $(1 # 2)", b"1<print><$(1>."),
-    ];
-    for (text, wanted) in cases {
-        assert_eq!(rt; told(rt.alloc(), text)?.as_bytes(), wanted);
+    for (text, wanted) in LINES {
+        assert_eq!(rt; told(rt.alloc(), *text)?.as_bytes(), *wanted);
     }
     Ok(())
 }
@@ -198,31 +199,32 @@ fn expanded(alloc: Global, text: &[u8]) -> Result<Text, NoMemory> {
     }
 }
 
+const EXPANDED: &[(&[u8], &[u8])] = &[
+    (b"", b""),
+    (b"a b", b"a b"),
+    (b"$x", b"7"),
+    (b"a${x}b$x$x", b"a7b77"),
+    (b"$(1 + (2)) $()", b"formula"),
+    (b"$(1 + (2))$x", b"1 + (2)7"),
+    (b"$(${x})", b"${x}"),
+    (b"${two}", b" a  b "),
+    (b"$y $", b"unknown y"),
+    (b"a$ $y", b"$1"),
+    (b"ab$", b"$2"),
+    (b"$$x", b"$0"),
+    (b"$-", b"$0"),
+    (b"abc${}", b"$3"),
+    (b"ab${x", b"$2"),
+    (b"$x$(1 + (2)", b"$2"),
+    (b"${a b}", b"unknown a b"),
+    (b"$_", b"unknown _"),
+    (b"$m$", b"memory"),
+];
+
 #[test]
 fn names_and_formulas_are_replaced_from_left_to_right(rt: HostRuntime) -> Result<(), Fail> {
-    let cases: [(&[u8], &[u8]); 19] = [
-        (b"", b""),
-        (b"a b", b"a b"),
-        (b"$x", b"7"),
-        (b"a${x}b$x$x", b"a7b77"),
-        (b"$(1 + (2)) $()", b"formula"),
-        (b"$(1 + (2))$x", b"1 + (2)7"),
-        (b"$(${x})", b"${x}"),
-        (b"${two}", b" a  b "),
-        (b"$y $", b"unknown y"),
-        (b"a$ $y", b"$1"),
-        (b"ab$", b"$2"),
-        (b"$$x", b"$0"),
-        (b"$-", b"$0"),
-        (b"abc${}", b"$3"),
-        (b"ab${x", b"$2"),
-        (b"$x$(1 + (2)", b"$2"),
-        (b"${a b}", b"unknown a b"),
-        (b"$_", b"unknown _"),
-        (b"$m$", b"memory"),
-    ];
-    for (text, wanted) in cases {
-        assert_eq!(rt; expanded(rt.alloc(), text)?.as_bytes(), wanted);
+    for (text, wanted) in EXPANDED {
+        assert_eq!(rt; expanded(rt.alloc(), *text)?.as_bytes(), *wanted);
     }
     Ok(())
 }
@@ -265,22 +267,23 @@ fn tell(words: &Words, out: &mut Text) -> Result<(), NoMemory> {
     Ok(())
 }
 
+const SUBSTITUTED: &[(&[u8], &[u8])] = &[
+    (
+        b"print '$x' $x \"a ${two} b\"",
+        b"<print><$x><7><a ${two} b>",
+    ),
+    (b"a${two}b c$(1 'x y)d", b"<a><a><b><b><c1><'x><yd>"),
+    (b"${two}", b"<a><b>"),
+    (b"'' x", b"<><x>"),
+    (b"a b$ '$'", b"$1"),
+    (b"a$(1", b"$1"),
+    (b"$y $", b"unknown y"),
+];
+
 #[test]
 fn unquoted_words_are_substituted_and_split(rt: HostRuntime) -> Result<(), Fail> {
-    let cases: [(&[u8], &[u8]); 7] = [
-        (
-            b"print '$x' $x \"a ${two} b\"",
-            b"<print><$x><7><a ${two} b>",
-        ),
-        (b"a${two}b c$(1 'x y)d", b"<a><a><b><b><c1><'x><yd>"),
-        (b"${two}", b"<a><b>"),
-        (b"'' x", b"<><x>"),
-        (b"a b$ '$'", b"$1"),
-        (b"a$(1", b"$1"),
-        (b"$y $", b"unknown y"),
-    ];
-    for (text, wanted) in cases {
-        assert_eq!(rt; substituted(rt.alloc(), text)?.as_bytes(), wanted);
+    for (text, wanted) in SUBSTITUTED {
+        assert_eq!(rt; substituted(rt.alloc(), *text)?.as_bytes(), *wanted);
     }
     Ok(())
 }

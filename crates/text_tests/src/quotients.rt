@@ -9,35 +9,45 @@ const MOST: u128 = (1 << 126) - 1;
 /// The greatest square of a distance within the greatest cutoff, and one more than half of it.
 const LONG: u64 = (1 << 56) - 1;
 
+const QUOTIENTS: &[(u128, u64, u128)] = &[
+    // ties go up, and just below a tie does not
+    (3, 2, 2),
+    (1, 2, 1),
+    ((15 << 40), 1 << 41, 8),
+    ((15 << 40) - 1, 1 << 41, 7),
+    (5, 3, 2),
+    (4, 3, 1),
+    // exact multiples
+    (12, 4, 3),
+    (0, 5, 0),
+    (1 << 119, 1 << 56, 1 << 63),
+    (3 << 118, 1 << 56, 3 << 62),
+    // the least divisor, and the greatest square of a distance
+    ((1 << 63) + 1, 1, (1 << 63) + 1),
+    ((LONG as u128) << 52, LONG, 1 << 52),
+    (((LONG as u128) << 52) + (1 << 55) - 1, LONG, 1 << 52),
+    (((LONG as u128) << 52) + (1 << 55), LONG, (1 << 52) + 1),
+    // quotients of 64 bits and more, of the greatest dividend and divisor
+    (MOST, 1, MOST),
+    (MOST, 1 << 62, 1 << 64),
+    ((1 << 126) - (1 << 61), 1 << 62, 1 << 64),
+    ((1 << 126) - (1 << 61) - 1, 1 << 62, (1 << 64) - 1),
+    (1 << 61, 1 << 62, 1),
+];
+
+/// Whether a quotient is found by any guess, and a guess is taken for it only where it is it.
+fn is_found(a: u128, b: u64, want: u128, guess: u64) -> bool {
+    a < 1 << 126
+        && b > 0
+        && b <= 1 << 62
+        && is_nearest(a, b, guess) == (u128::from(guess) == want)
+        && nearest_by_guess(a, b, guess) == want
+}
+
 #[test]
 fn hard_quotients(rt: HostRuntime) -> Result<(), Fail> {
-    let rows: [(u128, u64, u128); 19] = [
-        // ties go up, and just below a tie does not
-        (3, 2, 2),
-        (1, 2, 1),
-        ((15 << 40), 1 << 41, 8),
-        ((15 << 40) - 1, 1 << 41, 7),
-        (5, 3, 2),
-        (4, 3, 1),
-        // exact multiples
-        (12, 4, 3),
-        (0, 5, 0),
-        (1 << 119, 1 << 56, 1 << 63),
-        (3 << 118, 1 << 56, 3 << 62),
-        // the least divisor, and the greatest square of a distance
-        ((1 << 63) + 1, 1, (1 << 63) + 1),
-        ((LONG as u128) << 52, LONG, 1 << 52),
-        (((LONG as u128) << 52) + (1 << 55) - 1, LONG, 1 << 52),
-        (((LONG as u128) << 52) + (1 << 55), LONG, (1 << 52) + 1),
-        // quotients of 64 bits and more, of the greatest dividend and divisor
-        (MOST, 1, MOST),
-        (MOST, 1 << 62, 1 << 64),
-        ((1 << 126) - (1 << 61), 1 << 62, 1 << 64),
-        ((1 << 126) - (1 << 61) - 1, 1 << 62, (1 << 64) - 1),
-        (1 << 61, 1 << 62, 1),
-    ];
-    for (a, b, want) in rows {
-        assert!(rt; a < 1 << 126 && b > 0 && b <= 1 << 62);
+    for (a, b, want) in QUOTIENTS {
+        let (a, b, want) = (*a, *b, *want);
         let near = (want % (1 << 64)) as u64;
         for guess in [
             near,
@@ -47,17 +57,7 @@ fn hard_quotients(rt: HostRuntime) -> Result<(), Fail> {
             1 << 51,
             u64::MAX,
         ] {
-            let is_want = u128::from(guess) == want;
-            assert_eq!(rt;
-                is_nearest(a, b, guess),
-                is_want,
-                "{guess} for {a} over {b}"
-            );
-            assert_eq!(rt;
-                nearest_by_guess(a, b, guess),
-                want,
-                "{a} over {b} by {guess}"
-            );
+            assert!(rt; is_found(a, b, want, guess), "{a} over {b} by {guess}");
         }
     }
     assert!(rt; !is_nearest(0, 0, 0) && !is_nearest(7, 0, 1));

@@ -132,6 +132,22 @@ fn index_and_loop_leave_a_name_and_a_string_does_not(rt: HostRuntime) -> Result<
     Ok(())
 }
 
+const TURNS: &[(&[&[u8]], &[u8], &[u8])] = &[
+    (&[b"a", b"b"], b"stays", b"q|y|1|9|t|"),
+    (&[b"a", b"a"], b"stays", b"r|y|1|9|t|"),
+    (&[b"a", b"n", b"i", b"m"], b"unknown n", b"r|y|1|9|t|"),
+    (&[b"s", b"m"], b"unknown m", b"r|y|1|9|t|"),
+    (&[b"a", b"i", b"s"], b"mixed i", b"r|y|1|9|t|"),
+    (&[b"i", b"j", b"b"], b"mixed b", b"r|y|1|9|t|"),
+    (&[b"s"], b"mixed s", b"r|y|1|9|t|"),
+    (&[b"b", b"a"], b"deleted", b"s|?|1|9|t|"),
+    (&[b"a"], b"deleted", b"?|?|1|9|t|"),
+    (&[b"i"], b"stays", b"?|?|2|9|t|"),
+    (&[b"j", b"i", b"j"], b"stays", b"?|?|3|10|t|"),
+    (&[b"j", b"i"], b"deleted", b"?|?|?|11|t|"),
+    (&[b"i"], b"unknown i", b"?|?|?|11|t|"),
+];
+
 #[test]
 fn next_takes_one_value_of_each_and_deletes_the_exhausted(rt: HostRuntime) -> Result<(), Fail> {
     let alloc = rt.alloc();
@@ -141,24 +157,9 @@ fn next_takes_one_value_of_each_and_deletes_the_exhausted(rt: HostRuntime) -> Re
     counter(alloc, &mut vars, b"i", 1, 3)?;
     counter(alloc, &mut vars, b"j", 9, 11)?;
     string(alloc, &mut vars, b"s", b"t")?;
-    let turns: [(&[&[u8]], &[u8], &[u8]); 13] = [
-        (&[b"a", b"b"], b"stays", b"q|y|1|9|t|"),
-        (&[b"a", b"a"], b"stays", b"r|y|1|9|t|"),
-        (&[b"a", b"n", b"i", b"m"], b"unknown n", b"r|y|1|9|t|"),
-        (&[b"s", b"m"], b"unknown m", b"r|y|1|9|t|"),
-        (&[b"a", b"i", b"s"], b"mixed i", b"r|y|1|9|t|"),
-        (&[b"i", b"j", b"b"], b"mixed b", b"r|y|1|9|t|"),
-        (&[b"s"], b"mixed s", b"r|y|1|9|t|"),
-        (&[b"b", b"a"], b"deleted", b"s|?|1|9|t|"),
-        (&[b"a"], b"deleted", b"?|?|1|9|t|"),
-        (&[b"i"], b"stays", b"?|?|2|9|t|"),
-        (&[b"j", b"i", b"j"], b"stays", b"?|?|3|10|t|"),
-        (&[b"j", b"i"], b"deleted", b"?|?|?|11|t|"),
-        (&[b"i"], b"unknown i", b"?|?|?|11|t|"),
-    ];
-    for (names, answer, table) in turns {
-        assert_eq!(rt; next(alloc, &mut vars, names)?.as_bytes(), answer);
-        assert_eq!(rt; told(alloc, &vars)?.as_bytes(), table);
+    for (names, answer, table) in TURNS {
+        assert_eq!(rt; next(alloc, &mut vars, *names)?.as_bytes(), *answer);
+        assert_eq!(rt; told(alloc, &vars)?.as_bytes(), *table);
     }
     Ok(())
 }

@@ -1,0 +1,6 @@
+pub mod TermLemmas
+pub mod WordLemmas
+pub mod PushLemmas
+pub mod AddLemmas
+pub mod ListLemmas
+pub mod LawLemmas

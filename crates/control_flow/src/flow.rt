@@ -128,6 +128,28 @@ impl Flow {
         self.outer.len() as u32
     }
 
+    /// The file of the last line, at first that of the script.
+    pub fn last_file(&self) -> &Text
+        ensures { result.now ≡ self.now.last.file }
+    {
+        &self.last
+    }
+
+    /// The number of the last line, 0 before the first.
+    pub fn last_number(&self) -> u32
+        ensures { result ≡ self.now.last.number }
+    {
+        self.number
+    }
+
+    /// How many lines were run.
+    pub fn lines_run(&self) -> u32
+        ensures is { result ≡ self.now.count }
+        ensures few { result ≤ MAX_LINES }
+    {
+        self.count
+    }
+
     /// Whether the next jump is skipped.
     pub fn skips(&self) -> bool
         ensures { result ≡ self.now.skips }

@@ -1,7 +1,6 @@
 -- How a call ends, against what it was to write.
-use Rattle.std.specs.Prelude.{◌≡◌, ◌<◌, ℕ, Option, Some, None, IfNone, IsTrue, Result, Ok, Err, List}
-use Rattle.meaning.specs.declared.code.Code.TheVariants.{FileTooLong}
-use Rattle.meaning.specs.Answers.{is_absence}
+use Rattle.std.specs.Prelude.{◌≡◌, ℕ, Option, Some, None, IfNone, Result, Ok, Err, List}
+use Rattle.meaning.specs.declared.code.Code.TheVariants.{NoFile}
 use Rattle.meaning.specs.Causes.{Outside}
 use Rattle.outside.specs.declared.press.Piece.{Piece}
 use Rattle.outside.specs.Sent.{plus, SendsCut, SendsFront}
@@ -68,11 +67,11 @@ IsComplete status old run new = (run.status ≡ status) × (new ≡ plus old run
 abbrev pub EndsAs : Status → Option (List Piece) → Run → Option (List Piece) → Type 0
 EndsAs status old run new = EndsWith status old run.pieces run.status new
 
--- a status blames a device only where its count rose. A file that a shelf missed which tells nothing is told of only where that count rose; not so the
--- script, at line 0, where it is too long, since its limit is lower than the shelf's.
+-- a status blames a device only where its count rose. A file that a shelf missed which tells nothing is told of only where that count rose; not so a
+-- script that is too long, since its limit is lower than the shelf's.
 abbrev pub HasCause : Status → Outside → Outside → Type 0
 HasCause (ScriptRefused code file line) old new =
-    IsTrue (is_absence code) → (code ≡ FileTooLong → 0 < line) → IfNone old.shelf.stock (Rose old.shelf.absent new.shelf.absent)
+    code ≡ NoFile → IfNone old.shelf.stock (Rose old.shelf.absent new.shelf.absent)
 HasCause ReadFault old new = Rose old.shelf.faults new.shelf.faults
 HasCause WriteFault old new = Rose old.press.faults new.press.faults
 HasCause DiskFault old new = Rose old.disk new.disk

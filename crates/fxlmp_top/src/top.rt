@@ -2,14 +2,13 @@
 ghost use Rattle.fxlmp_top.specs.Ends.{EndsAs, HasCause, IsComplete, IsSerialStatus, SendsAll, SendsPart};
 ghost use Rattle.fxlmp_top.specs.Serial.{name_of, played_source, serial, text_of};
 ghost use Rattle.fxlmp_top.specs.Words.{asked};
-ghost use Rattle.meaning.specs.Answers.{is_absence};
 ghost use Rattle.meaning.specs.Causes.{Kept, shelf_alone, seen_of};
 ghost use Rattle.meaning.specs.SystemFiles.{within};
 ghost use Rattle.run_gen.specs.Script.{script_text};
 ghost use Rattle.outside.specs.declared.files.File.{File};
 ghost use Rattle.outside.specs.Stock.{content, Rose};
 ghost use Rattle.session.specs.Ends.{EndsAs as Plays, GetsFile, StatusCounted, StatusStays};
-ghost use Rattle.std.specs.Prelude.{◌≡◌, ◌<◌, ◌≤◌, ◌⊎◌, ◌+◌, ℕ, List, Some, Err, length, IfNone, IfOk, IsErrOf, IsTrue};
+ghost use Rattle.std.specs.Prelude.{◌≡◌, ◌≤◌, ◌⊎◌, ◌+◌, ℕ, List, Some, Err, length, IfNone, IfOk, IsErrOf};
 
 use crate::asked::{Asked, Source};
 use crate::start::first_settings;
@@ -21,39 +20,10 @@ use fx_num::{NoMemory, Steps, Text};
 use meaning::{Code, Refusal};
 use outside::{Gate, Press, Shelf, SurePress, SureShelf};
 use run_gen::script;
-use session::{Status, fetch, play, refuse};
+use session::{Status, fetch_script, play, refuse};
 use std::alloc::Global;
 use std::sync::ledger::Ledger;
 use std::thread::Threads;
-
-/// A text, if it is short enough for a script.
-fn short_enough(text: Text) -> Result<Text, Refusal>
-    ensures is { GetsFile (within MAX_SCRIPT_BYTES (Some text)) result }
-    ensures short { IfOk result (λ text. length text ≤ MAX_SCRIPT_BYTES) }
-    ensures only { (code : Code) → IsErrOf result (Refusal.Code code) → code ≡ Code.FileTooLong }
-    ensures no_fault { IsErrOf result Refusal.ReadFault → ⊥ }
-{
-    if text.as_bytes().len() <= MAX_SCRIPT_BYTES {
-        Ok(text)
-    } else {
-        Err(Refusal::Code(Code::FileTooLong))
-    }
-}
-
-/// The text of the script's file.
-fn fetch_script<S: Shelf>(alloc: Global, shelf: &mut S, name: &Text) -> Result<Text, Refusal>
-    ensures told { (files : List File) → (S.seen shelf.old).stock ≡ Some files → GetsFile (within MAX_SCRIPT_BYTES (content files name.now)) result }
-    ensures short { IfOk result (λ text. length text ≤ MAX_SCRIPT_BYTES) }
-    ensures absent { (code : Code) → IsErrOf result (Refusal.Code code) → IsTrue (is_absence code) → (code ≡ Code.FileTooLong → ⊥) → IfNone (S.seen shelf.old).stock (Rose (S.seen shelf.old).absent (S.seen shelf.new).absent) }
-    ensures read { IsErrOf result Refusal.ReadFault → Rose (S.seen shelf.old).faults (S.seen shelf.new).faults }
-    ensures kept { Kept (shelf_alone (S.seen shelf.old)) (shelf_alone (S.seen shelf.new)) }
-    ensures faults_stay { (IsErrOf result Refusal.ReadFault → ⊥) → (S.seen shelf.new).faults ≡ (S.seen shelf.old).faults }
-{
-    match fetch(alloc, shelf, name) {
-        Ok(text) => short_enough(text),
-        Err(why) => Err(why),
-    }
-}
 
 /// The generated script.
 fn generate(alloc: Global, cells: u32, seed: u32) -> Result<Text, Refusal>
@@ -72,7 +42,7 @@ fn generate(alloc: Global, cells: u32, seed: u32) -> Result<Text, Refusal>
 fn text_of<S: Shelf>(alloc: Global, shelf: &mut S, source: &Source) -> Result<Text, Refusal>
     ensures told { (files : List File) → (S.seen shelf.old).stock ≡ Some files → GetsFile (text_of files source.now) result }
     ensures short { IfOk result (λ text. length text ≤ MAX_SCRIPT_BYTES) }
-    ensures absent { (code : Code) → IsErrOf result (Refusal.Code code) → IsTrue (is_absence code) → (code ≡ Code.FileTooLong → ⊥) → IfNone (S.seen shelf.old).stock (Rose (S.seen shelf.old).absent (S.seen shelf.new).absent) }
+    ensures absent { IsErrOf result (Refusal.Code Code.NoFile) → IfNone (S.seen shelf.old).stock (Rose (S.seen shelf.old).absent (S.seen shelf.new).absent) }
     ensures read { IsErrOf result Refusal.ReadFault → Rose (S.seen shelf.old).faults (S.seen shelf.new).faults }
     ensures kept { Kept (shelf_alone (S.seen shelf.old)) (shelf_alone (S.seen shelf.new)) }
     ensures faults_stay { (IsErrOf result Refusal.ReadFault → ⊥) → (S.seen shelf.new).faults ≡ (S.seen shelf.old).faults }
@@ -238,10 +208,8 @@ pub fn run_words<
     ensures misread { (place : ℕ) → asked words.now ≡ Err place → (result ≡ Status.Usage place) ⊎ (result ≡ Status.NoMemory) }
     ensures usage_untouched { (place : ℕ) → asked words.now ≡ Err place → seen_of (S.seen shelf.new) (P.seen press.new) (D.view disk.new).faults ≡ seen_of (S.seen shelf.old) (P.seen press.old) (D.view disk.old).faults }
 
-    // Where the shelf does not tell its files, one is missing, and one other than the script too long,
-    // only by what the shelf answered.
+    // Where the shelf does not tell its files, one is missing only by what the shelf answered.
     ensures no_file { (file : List ℕ) (line : ℕ) → result ≡ Status.ScriptRefused Code.NoFile file line → IfNone (S.seen shelf.old).stock (Rose (S.seen shelf.old).absent (S.seen shelf.new).absent) }
-    ensures data_too_long { (file : List ℕ) (line : ℕ) → result ≡ Status.ScriptRefused Code.FileTooLong file line → 0 < line → IfNone (S.seen shelf.old).stock (Rose (S.seen shelf.old).absent (S.seen shelf.new).absent) }
 
     ensures stock_stays { (S.seen shelf.new).stock ≡ (S.seen shelf.old).stock }
     ensures read_kept { (S.seen shelf.old).faults ≤ (S.seen shelf.new).faults }

@@ -10,6 +10,10 @@ use Rattle.box_geo.specs.Fault.{kind_number, phase_number}
 unfoldable pub refusal_text : List ℕ → List ℕ → ℕ → List ℕ
 refusal_text code file line = codes "ERROR: " ++ code ++ codes " at " ++ file ++ codes ":" ++ decimal line ++ codes "\n"
 
+-- the line of a script that would run more lines than it may, at the file and line of the first beyond
+unfoldable pub budget_text : List ℕ → ℕ → List ℕ
+budget_text file line = refusal_text (codes "Budget") file line
+
 -- the names of the phase and the kind of a fault
 abbrev pub phase_name : ℕ → List ℕ
 phase_name p =

@@ -1,7 +1,7 @@
 //! The lines of errors.
 ghost use Rattle.std.specs.Prelude.{◌≡◌, ◌++◌, ◌≤◌, IfOk, OnErr, OnOk};
 ghost use Rattle.std.specs.Fmt.{decimal};
-ghost use Rattle.log_output.specs.Errors.{fault_text, kind_name, phase_name, refusal_text};
+ghost use Rattle.log_output.specs.Errors.{budget_text, fault_text, kind_name, phase_name, refusal_text};
 
 use arrayvec::ArrayString;
 use box_geo::{FaultKey, FaultKind, FaultPhase};
@@ -84,4 +84,12 @@ pub fn refusal_text(alloc: Global, code: &str, file: &[u8], line: u32) -> Result
     push_whole(&mut text, u64::from(line))?;
     text.push(b"\n")?;
     Ok(text)
+}
+
+/// The line of a script that would run more lines than it may.
+#[tactic(auto, unfolding(crate::specs::Errors::budget_text))]
+pub fn budget_text(alloc: Global, file: &[u8], line: u32) -> Result<Text, NoMemory>
+    ensures { IfOk result (λ text. text ≡ budget_text file.now line) }
+{
+    refusal_text(alloc, "Budget", file, line)
 }

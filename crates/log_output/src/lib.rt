@@ -3,4 +3,4 @@
 
 mod errors;
 
-pub use errors::{fault_text, push_whole, refusal_text};
+pub use errors::{budget_text, fault_text, push_whole, refusal_text};

@@ -1,3 +1,4 @@
+pub mod FaultLemmas
 pub mod Mapped
 pub mod StateLemmas
 pub mod Worked

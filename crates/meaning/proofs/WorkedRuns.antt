@@ -14,11 +14,11 @@ use Rattle.fx_num.specs.Print.{fix_text}
 use Rattle.fx_num.specs.Rounding.{div_rounded, nearest_of}
 use Rattle.log_output.specs.Errors.{fault_text, refusal_text}
 use Rattle.meaning.specs.declared.code.Code.TheVariants.{EdgeTooSmall, TwiceMoved}
-use Rattle.meaning.specs.Lines.{line_outcome}
-use Rattle.meaning.specs.Play.{Played, complete, failed_at, play, played_lines, refused_at}
+use Rattle.meaning.specs.Lines.{line_command}
+use Rattle.meaning.specs.Play.{Played, complete, failed_at, played, refused_at}
 use Rattle.meaning.specs.Runs.{run_from, run_of}
 use Rattle.meaning.specs.Shown.{shown}
-use Rattle.meaning.proofs.Worked.{both, log_name, put_later, start}
+use Rattle.meaning.proofs.Worked.{both, few, log_name, put_later, start}
 use Rattle.outside.specs.declared.press.Piece.{Piece}
 use Rattle.pair_lj.specs.Pairs.{are_all_had, numbers_at}
 use Rattle.pair_lj.specs.PairTerm.{energy_at, force_along, inverse_square, pair_term, sixth_power, strength, twelfth_power, weighted_term}
@@ -52,11 +52,11 @@ one_atom = record (start []) { body = Some record { step = 0; sides = record { x
 
 -- lines in that state
 moves : List ℕ → Played
-moves lines = play [] (codes "s.in") (codes "pair_style lj/cut 2.5\npair_coeff 1 1 1.0 1.0\n" ++ lines) one_atom
+moves lines = few (codes "pair_style lj/cut 2.5\npair_coeff 1 1 1.0 1.0\n" ++ lines) one_atom
 
 -- lines over a system
 over : List ℕ → List ℕ → Played
-over system lines = play [] (codes "s.in") (system ++ codes "pair_style lj/cut 2.5\npair_coeff 1 1 1.0 1.0\n" ++ lines) (start [])
+over system lines = few (system ++ codes "pair_style lj/cut 2.5\npair_coeff 1 1 1.0 1.0\n" ++ lines) (start [])
 
 -- the first text that is shown, and a later one
 first : List ℕ → List Piece
@@ -77,7 +77,7 @@ at_two : over (two_atoms (codes "10") (codes "4") (codes "6")) (codes "run 0\n")
   end = complete;
   pairs = 1;
 }
-unfolding cube atom_line two_atoms over first later header_line both log_name put_later start line_outcome played_lines shown form_among read box_refusal read_number read_count decimal_of decimal_units nearest_of div_rounded are_all_had numbers_at edge_too_small run_of run_from set_up with_forces force_on forces_fault terms_fault term_of pair_energy pair_virial near_image pair_term weighted_term force_along energy_at strength twelfth_power sixth_power inverse_square neighbour_pairs fix_text volume_of kinetic_sum temperature kinetic_share energy_share pressure header_text line_text footer_text digits
+unfolding cube atom_line two_atoms over first later header_line both log_name put_later start few line_command played shown form_among read box_refusal read_number read_count decimal_of decimal_units nearest_of div_rounded are_all_had numbers_at edge_too_small run_of run_from set_up with_forces force_on forces_fault terms_fault term_of pair_energy pair_virial near_image pair_term weighted_term force_along energy_at strength twelfth_power sixth_power inverse_square neighbour_pairs fix_text volume_of kinetic_sum temperature kinetic_share energy_share pressure header_text line_text footer_text digits
 at_two = refl
 
 -- too close
@@ -86,7 +86,7 @@ too_close : over (two_atoms (codes "10") (codes "5") (codes "5.2")) (codes "run 
   end = failed_at record { phase = 2; kind = 1; a = 1; b = 2 } 0;
   pairs = 1;
 }
-unfolding cube atom_line two_atoms over first later header_line both log_name put_later start line_outcome played_lines shown form_among read box_refusal read_number read_count decimal_of decimal_units nearest_of div_rounded are_all_had numbers_at edge_too_small run_of run_from set_up with_forces force_on forces_fault terms_fault term_of pair_energy pair_virial near_image pair_term weighted_term force_along energy_at strength twelfth_power sixth_power inverse_square fault_text digits
+unfolding cube atom_line two_atoms over first later header_line both log_name put_later start few line_command played shown form_among read box_refusal read_number read_count decimal_of decimal_units nearest_of div_rounded are_all_had numbers_at edge_too_small run_of run_from set_up with_forces force_on forces_fault terms_fault term_of pair_energy pair_virial near_image pair_term weighted_term force_along energy_at strength twelfth_power sixth_power inverse_square fault_text digits
 too_close = refl
 
 -- twice the sum of the cutoff and the skin is 93952410 units; an edge of one unit less is refused
@@ -95,7 +95,7 @@ small_box : over (two_atoms (codes "5.59999996") (codes "1") (codes "3")) (codes
   end = refused_at EdgeTooSmall (codes "s.in") 8;
   pairs = 0;
 }
-unfolding cube atom_line two_atoms over first later both log_name put_later start line_outcome played_lines shown form_among read box_refusal read_number read_count decimal_of decimal_units nearest_of div_rounded are_all_had numbers_at edge_too_small refusal_text digits
+unfolding cube atom_line two_atoms over first later both log_name put_later start few line_command played shown form_among read box_refusal read_number read_count decimal_of decimal_units nearest_of div_rounded are_all_had numbers_at edge_too_small refusal_text digits
 small_box = refl
 
 -- an atom that two fixes move
@@ -104,7 +104,7 @@ twice_moved : moves (codes "fix a all nve\nfix b all nve\nrun 1\n") ≡ record {
   end = refused_at TwiceMoved (codes "s.in") 5;
   pairs = 0;
 }
-unfolding side mover one_atom moves first later both log_name put_later start line_outcome played_lines shown form_among read box_refusal read_number read_count decimal_of decimal_units nearest_of div_rounded are_all_had numbers_at edge_too_small refusal_text digits
+unfolding side mover one_atom moves first later both log_name put_later start few line_command played shown form_among read box_refusal read_number read_count decimal_of decimal_units nearest_of div_rounded are_all_had numbers_at edge_too_small refusal_text digits
 twice_moved = refl
 
 -- the atom wraps in one step, and the references are renewed; a second run goes on from the step of the first
@@ -121,5 +121,5 @@ goes_on : moves (codes "timestep 0.5\nfix 1 all nve\nrun 1\nrun 2 upto\n") ≡ r
   end = complete;
   pairs = 0;
 }
-unfolding side mover one_atom moves first later header_line both log_name put_later start line_outcome played_lines shown form_among read box_refusal read_number read_count decimal_of decimal_units nearest_of div_rounded are_all_had numbers_at edge_too_small run_of run_from set_up with_forces force_on forces_fault terms_fault term_of pair_energy pair_virial near_image pair_term weighted_term force_along energy_at strength twelfth_power sixth_power inverse_square neighbour_pairs fix_text volume_of kinetic_sum temperature kinetic_share energy_share pressure header_text line_text footer_text digits serial_step drifted kicked_again wrap renews
+unfolding side mover one_atom moves first later header_line both log_name put_later start few line_command played shown form_among read box_refusal read_number read_count decimal_of decimal_units nearest_of div_rounded are_all_had numbers_at edge_too_small run_of run_from set_up with_forces force_on forces_fault terms_fault term_of pair_energy pair_virial near_image pair_term weighted_term force_along energy_at strength twelfth_power sixth_power inverse_square neighbour_pairs fix_text volume_of kinetic_sum temperature kinetic_share energy_share pressure header_text line_text footer_text digits serial_step drifted kicked_again wrap renews
 goes_on = refl

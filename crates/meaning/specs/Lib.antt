@@ -2,7 +2,10 @@ pub mod Answers
 pub mod Causes
 pub mod Codes
 pub mod Commands
+pub mod Conditions
 pub mod Fixes
+pub mod Flow
+pub mod Known
 pub mod Lattice
 pub mod Lines
 pub mod MassesGroups
@@ -20,5 +23,6 @@ pub mod Sound
 pub mod SystemFiles
 pub mod Thermo
 pub mod Uses
+pub mod ValueGroups
 pub mod Variables
 pub mod Velocity

@@ -80,7 +80,7 @@ abbrev pub is_left : List NamedGroup → Atom → List (List ℕ) → Bool
 is_left groups a [] = false
 is_left groups a (name ∷ names) = has_atom groups a name && not (list_any (has_atom groups a) names)
 
--- whether `group` adds an atom, in a box of so many types. Those of a variable's values are not built yet.
+-- whether `group` adds an atom, in a box of so many types. Those of a variable's values are chosen elsewhere.
 abbrev pub is_chosen : Named → ℕ → Members → Atom → Bool
 is_chosen n kinds (members.Region name) a = holds n.regions name a.x
 is_chosen n kinds (members.Kinds ranges) a = list_any (λ r. has_kind r kinds a.kind) ranges

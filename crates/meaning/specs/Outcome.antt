@@ -5,11 +5,14 @@ use Rattle.meaning.specs.declared.code.Code.{Code}
 use Rattle.meaning.specs.declared.settings.Settings.{Settings}
 use Rattle.outside.specs.declared.press.Piece.{Piece}
 
--- how the script goes on: with the next command; or it ends, by `quit`, refused with a code, by a fault at a step, or by what is not built yet
+-- how the script goes on: with the next command; or it ends, by `quit`, refused with a code, refused at another line of this file and number, by a line of
+-- this file and number that is one more than may be run, by a fault at a step, or by what is not built yet
 pub data Way : Type 0 where
   goes : Way
   quits : Way
   refuses : Code → Way
+  refuses_at : Code → List ℕ → ℕ → Way
+  exceeds : List ℕ → ℕ → Way
   fails : FaultKey → ℕ → Way
   unbuilt : Way
 

@@ -15,7 +15,7 @@ use Rattle.meaning.specs.MassesGroups.{are_massive}
 use Rattle.meaning.specs.Outcome.{Outcome, Way, fails, goes, refused, silent, unbuilt}
 use Rattle.meaning.specs.Pairs.{reach_of}
 use Rattle.meaning.specs.Shown.{Shown, nothing_shown, shown, shown_then}
-use Rattle.meaning.specs.Thermo.{is_due, thermo_footer, thermo_header, thermo_line}
+use Rattle.meaning.specs.Thermo.{is_due, numbers_of, thermo_footer, thermo_header, thermo_line}
 use Rattle.outside.specs.declared.press.Piece.{Piece}
 use Rattle.pair_lj.specs.declared.pair_settings.PairCoefficients.{PairCoefficients}
 use Rattle.pair_lj.specs.Pairs.{are_all_had, is_set, types_from}
@@ -71,16 +71,24 @@ late_code s b =
     cond (not (is_none (edge_too_small b.sides (pos (reach_of s.force) +ℤ s.force.skin)))) (Some EdgeTooSmall)
     (cond (move_twice (fixes_over s.named.groups b.atoms s.named.fixes) b.atoms) (Some TwiceMoved) None)
 
--- a run or a part of it: its pieces, the uses of names afterwards, the state of the serial step, the way on, and how many terms of pairs it sums
+-- the state after set-up or a step, with the sums of its forces
+pub record Snapshot : Type 0 where
+  pub state : State
+  pub sums : Sums
+
+abbrev pub snapshot : StepOutcome → Snapshot
+snapshot n = record { state = n.state; sums = n.sums }
+
+-- a run or a part of it: its pieces, the uses of names afterwards, where it ends, the way on, and how many terms of pairs it sums
 pub record Ran : Type 0 where
   pub pieces : List Piece
   pub uses : List NameUse
-  pub state : State
+  pub end : Snapshot
   pub way : Way
   pub pairs : ℕ
 
-abbrev pub halted : List NameUse → State → Way → Ran
-halted uses state way = record { pieces = []; uses = uses; state = state; way = way; pairs = 0 }
+abbrev pub halted : List NameUse → Snapshot → Way → Ran
+halted uses end way = record { pieces = []; uses = uses; end = end; way = way; pairs = 0 }
 
 -- so many terms, and then the rest
 abbrev pub sums_up : ℕ → Ran → Ran
@@ -101,14 +109,14 @@ line_shown t o last state sums uses = shown_if (is_due o.every last state.step) 
 -- after a step without a fault: its line, if one is due, and what follows; or the fault
 abbrev pub after_step : Setting → Output → ℕ → StepOutcome → List NameUse → (List NameUse → Ran) → Bool → Ran
 after_step t o last n uses next true = shows (line_shown t o last n.state n.sums uses) next
-after_step t o last n uses next false = halted uses n.state (fails (key_of n.fault) n.state.step)
+after_step t o last n uses next false = halted uses (snapshot n) (fails (key_of n.fault) n.state.step)
 
 -- so many steps more, and then the footer
-unfoldable pub run_from : Setting → Output → ℕ → ℕ → State → List NameUse → Ran
-run_from t o last zero state uses = shows (shown o (thermo_footer t state) uses) (λ after. halted after state goes)
-run_from t o last (suc left) state uses =
-    let n : StepOutcome = serial_step t state in
-    sums_up (step_pairs t state) (after_step t o last n uses (λ after. run_from t o last left n.state after) (n.fault == no_fault))
+unfoldable pub run_from : Setting → Output → ℕ → ℕ → Snapshot → List NameUse → Ran
+run_from t o last zero now uses = shows (shown o (thermo_footer t now.state) uses) (λ after. halted after now goes)
+run_from t o last (suc left) now uses =
+    let n : StepOutcome = serial_step t now.state in
+    sums_up (step_pairs t now.state) (after_step t o last n uses (λ after. run_from t o last left (snapshot n) after) (n.fault == no_fault))
 
 -- set-up, whose line is always due, and then the steps
 abbrev pub first_shown : Setting → Output → State → Sums → List NameUse → Shown
@@ -116,21 +124,23 @@ first_shown t o state sums uses = shown_then (shown o thermo_header uses) (shown
 
 abbrev pub after_set_up : Setting → Output → StepOutcome → List NameUse → (List NameUse → Ran) → Bool → Ran
 after_set_up t o n uses next true = shows (first_shown t o n.state n.sums uses) next
-after_set_up t o n uses next false = halted uses n.state (fails (key_of n.fault) n.state.step)
+after_set_up t o n uses next false = halted uses (snapshot n) (fails (key_of n.fault) n.state.step)
 
 unfoldable pub run_of : Setting → Output → ℕ → ℕ → List Atom → List NameUse → Ran
 run_of t o last step atoms uses =
     let n : StepOutcome = set_up t step atoms in
-    sums_up (length (half atoms)) (after_set_up t o n uses (λ after. run_from t o last (last - step) n.state after) (n.fault == no_fault))
+    sums_up (length (half atoms)) (after_set_up t o n uses (λ after. run_from t o last (last - step) (snapshot n) after) (n.fault == no_fault))
 
--- the state after a run
-abbrev pub after_run : Settings → Body → Ran → Outcome
-after_run s b r = record {
-  pieces = r.pieces;
-  state = record s { body = Some (record b { step = r.state.step; atoms = r.state.atoms }); output = record s.output { uses = r.uses } };
-  way = r.way;
-  pairs = r.pairs;
+-- the state after a run; the numbers of its last step are known from then on, as its last line has them
+abbrev pub ends_as : Settings → Body → Snapshot → List NameUse → Settings
+ends_as s b end uses = record s {
+  body = Some (record b { step = end.state.step; atoms = end.state.atoms });
+  output = record s.output { uses = uses };
+  known = numbers_of (setting_of s b) end.state end.sums;
 }
+
+abbrev pub after_run : Settings → Body → Ran → Outcome
+after_run s b r = record { pieces = r.pieces; state = ends_as s b r.end r.uses; way = r.way; pairs = r.pairs }
 
 abbrev pub run_ready : Bool → ℕ → Settings → Body → Outcome
 run_ready upto n s b = after_run s b (run_of (setting_of s b) s.output (last_step upto n b.step) b.step b.atoms s.output.uses)

@@ -28,6 +28,7 @@ begun_with o vars = record {
   named = first_named;
   output = record o { every = 0 };
   vars = vars;
+  known = [];
 }
 
 abbrev pub clear : Settings → Settings

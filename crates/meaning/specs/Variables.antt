@@ -1,23 +1,28 @@
 -- Variables, and what stands for their names in texts.
-use Rattle.std.specs.Prelude.{ℕ, Result, Ok, Err, List}
+use Rattle.std.specs.Prelude.{cond, ℕ, ℤ, Result, Ok, Err, List}
 use Rattle.fx_num.specs.declared.faults.FormulaFault.{FormulaFault}
 use Rattle.fx_num.specs.declared.faults.FormulaFault.TheVariants as formula
 use Rattle.fx_num.specs.declared.faults.VarFault.{VarFault}
 use Rattle.fx_num.specs.declared.faults.VarFault.TheVariants as var_fault
+use Rattle.fx_num.specs.declared.numbers.Number.{Number}
 use Rattle.command_words.specs.declared.variables.NewVariable.{NewVariable}
 use Rattle.command_words.specs.declared.variables.VariableStyle.{VariableStyle}
 use Rattle.command_words.specs.declared.variables.VariableStyle.TheVariants as new
 use Rattle.meaning.specs.declared.code.Code.{Code}
 use Rattle.meaning.specs.declared.code.Code.TheVariants as code
+use Rattle.meaning.specs.declared.refusal.SettingsRefusal.{SettingsRefusal}
+use Rattle.meaning.specs.declared.refusal.SettingsRefusal.TheVariants as refusal
 use Rattle.meaning.specs.declared.settings.Settings.{Settings}
-use Rattle.meaning.specs.Outcome.{Outcome, done, refused, silent, unbuilt}
+use Rattle.meaning.specs.Known.{known_in}
+use Rattle.meaning.specs.Outcome.{Outcome, done, refused}
 use Rattle.script_lines.specs.declared.refusals.ExpandRefusal.{ExpandRefusal}
 use Rattle.script_lines.specs.declared.refusals.ExpandRefusal.TheVariants.{BadDollar, Inner, NoMemory}
 use Rattle.script_lines.specs.Substitution.{expansion}
-use Rattle.script_lines.specs.Table.{Table}
+use Rattle.script_lines.specs.Table.{Table, is_no_memory}
 use Rattle.var_table.specs.declared.styles.VarStyle.{VarStyle}
 use Rattle.var_table.specs.declared.styles.VarStyle.TheVariants as style
-use Rattle.var_table.specs.Variables.{Named, defined, text_in, without}
+use Rattle.var_table.specs.Variables.{Named, defined, without}
+use Rattle.variable_values.specs.Values.{formula_text, formula_value, text_of as value_text}
 
 -- the code of a formula's fault
 abbrev pub formula_code : FormulaFault → Code
@@ -37,9 +42,16 @@ fault_code (var_fault.NotText name) = code.NotText
 fault_code (var_fault.Formula fault) = formula_code fault
 fault_code var_fault.NoMemory = code.UnknownName
 
--- what stands for names: the texts of the variables. Formulas are not built yet, and a line that has one does not come so far.
-abbrev pub table_of : List Named → Table
-table_of vars = record { names = text_in vars; formulas = λ text. Err (var_fault.UnknownVariable text) }
+-- why a variable or a formula has no value, as a refusal
+abbrev pub fault_refusal : VarFault → SettingsRefusal
+fault_refusal fault = cond (is_no_memory fault) refusal.NoMemory (refusal.Code (fault_code fault))
+
+-- what stands for names and formulas: the texts of variables and of values, by what is known in the state
+abbrev pub table_over : List Named → List Number → Table
+table_over vars known = record { names = value_text vars known; formulas = formula_text vars known }
+
+abbrev pub table_of : Settings → Table
+table_of s = table_over s.vars (known_in s)
 
 -- the code of a text in which a `$` stands for nothing
 abbrev pub expand_code : ExpandRefusal → Code
@@ -53,7 +65,15 @@ coded (Err why) = Err (expand_code why)
 
 -- a text with what stands for its names
 abbrev pub text_of : Settings → List ℕ → Result (List ℕ) Code
-text_of s text = coded (expansion (table_of s.vars) text)
+text_of s text = coded (expansion (table_of s) text)
+
+-- the value of a formula's text, in units
+abbrev pub valued : Result ℤ VarFault → Result ℤ Code
+valued (Ok v) = Ok v
+valued (Err fault) = Err (fault_code fault)
+
+abbrev pub formula_of : Settings → List ℕ → Result ℤ Code
+formula_of s text = valued (formula_value s.vars (known_in s) text 0)
 
 abbrev pub with_vars : Settings → List Named → Settings
 with_vars s vars = record s { vars = vars }
@@ -66,12 +86,12 @@ abbrev pub defines_text : List ℕ → Settings → Result (List ℕ) Code → O
 defines_text name s (Ok text) = defines name (style.Plain text) s
 defines_text name s (Err why) = refused s why
 
--- `variable`; those that hold formulas are not built yet
+-- `variable`; a formula is kept as it is written, and read where its value is asked for
 abbrev pub variable_of : List ℕ → VariableStyle → Settings → Outcome
 variable_of name (new.Index values) s = defines name (style.Index values) s
 variable_of name (new.Loop range) s = defines name (style.Loop range.first range.last) s
-variable_of name (new.Equal formula) s = silent s unbuilt
-variable_of name (new.Atom formula) s = silent s unbuilt
+variable_of name (new.Equal formula) s = defines name (style.Equal formula) s
+variable_of name (new.Atom formula) s = defines name (style.AtomWise formula) s
 variable_of name (new.Plain text) s = defines_text name s (text_of s text)
 variable_of name new.Delete s = done (with_vars s (without s.vars name))
 

@@ -5,6 +5,7 @@ use crate::named::Named;
 use crate::output::Output;
 use crate::setup::Setup;
 use box_geo::{Angles, Atoms, Bonds, Masses, Sides};
+use fx_num::Numbers;
 use var_table::Vars;
 
 /// What there is once there is a box. The timestep is a setting, as it may be set before.
@@ -39,4 +40,6 @@ pub struct Settings {
     pub output: Output,
     /// Its variables.
     pub vars: Vars,
+    /// The numbers of the last run's last thermo line, by keyword, as long as no command behind it changed the system.
+    pub known: Numbers,
 }

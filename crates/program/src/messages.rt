@@ -37,17 +37,18 @@ arithmetic: every length, velocity, force and energy is a whole multiple of
                             word that begins with - and a letter
 
 The words stand in any order, each but -var at most once. One of -in and -gen is
-needed. FILE is a name, or a
-path from the current folder: 1 to 255 printable ASCII characters but blanks,
-quotes, * and %, and no compressed file (.gz, .bz2, .xz, .zst, .lz4). The script
-and the log have different names. NAME is 1 to 64 letters, digits and _.
+needed. FILE is a name, or a path from the current folder: 1 to 255 printable
+ASCII characters but blanks, quotes, * and %, and no compressed file (.gz, .bz2,
+.xz, .zst, .lz4). The script and the log have different names. NAME is 1 to 64
+letters, digits and _.
 
 The log goes to its file, which is written anew, and to the standard output.
 
 A script has at most 1048576 bytes. Its lines run one by one. A `&` at the end of
 a line joins the next one to it, a `#` begins a comment, and a text with blanks
 stands in quotes: single, double or triple ones. In words without quotes $x and
-${name} stand for the value of a variable. This version runs these commands:
+${name} stand for the value of a variable, and $(FORMULA) for that of a formula.
+This version runs these commands:
 
   units lj                          timestep DT
   dimension 2 | 3                   reset_timestep N
@@ -58,13 +59,18 @@ ${name} stand for the value of a variable. This version runs these commands:
   region ID SHAPE ..                variable NAME index VALUE ..
   create_box N REGION               variable NAME loop N [M]
   create_atoms TYPE box             variable NAME string TEXT
-    | region ID | single X Y Z      variable NAME delete
-  read_data FILE                    neighbor SKIN bin | nsq | multi
-  write_data FILE                   comm_modify cutoff CUTOFF
-  mass TYPES MASS                   fix ID all nve
-  pair_style lj/cut CUTOFF          unfix ID
-  pair_coeff TYPES TYPES            clear, quit
-    EPSILON SIGMA [CUTOFF]
+    | region ID | single X Y Z      variable NAME equal | atom FORMULA
+  read_data FILE                    variable NAME delete
+  write_data FILE                   next NAME ..
+  mass TYPES MASS                   if CONDITION then COMMAND ..
+  group ID SET ..                     [elif CONDITION COMMAND ..]
+  velocity GROUP CHANGE ..            [else COMMAND ..]
+  pair_style lj/cut CUTOFF          label NAME
+  pair_coeff TYPES TYPES            jump FILE | SELF [NAME]
+    EPSILON SIGMA [CUTOFF]          include FILE
+  neighbor SKIN bin | nsq | multi   fix ID GROUP nve
+  comm_modify cutoff CUTOFF         unfix ID
+  clear, quit
   newton, atom_modify, echo, neigh_modify (no effect)
 
 All other commands of the language are read, and end the run with status 9. Data
@@ -81,6 +87,7 @@ exit status:
   4   a file or the standard output could not be written
   6   out of memory
   7   the command line is wrong
+  8   more than 1000000 lines would run: the last line of the log says where
   9   a command is for a later version: standard error says at which line of
       the script
 ";
@@ -122,7 +129,10 @@ pub(crate) fn explain(
     status: &Status,
 ) -> io::Result<()> {
     let cause = match status {
-        Status::Done | Status::ScriptRefused { .. } | Status::RangeFault { .. } => return Ok(()),
+        Status::Done
+        | Status::ScriptRefused { .. }
+        | Status::RangeFault { .. }
+        | Status::Budget { .. } => return Ok(()),
         Status::Usage { place } => {
             let place = *place;
             return write!(to, "fxlmp: {}\n{USAGE}", WrongWord { words, place });

@@ -6,3 +6,4 @@ pub mod MemberLemmas
 pub mod SoundLemmas
 pub mod SpeedLemmas
 pub mod Types
+pub mod ValueLemmas

@@ -14,6 +14,7 @@ mod setup;
 mod sites;
 mod system_files;
 mod thermo;
+mod value_groups;
 mod velocity;
 
 pub use fixes::{add_fix, remove_fix};
@@ -26,4 +27,5 @@ pub use runs::reset_timestep;
 pub use setup::{set_atom_style, set_boundary, set_dimension, set_processors, set_timestep};
 pub use system_files::take_data;
 pub use thermo::set_thermo;
+pub use value_groups::group_by_values;
 pub use velocity::change_velocities;

@@ -253,7 +253,12 @@ fn has_unknown(named: &Named, members: &Members) -> bool
 }
 
 /// Adds ids to a group, which is made where it isn't there; `all` stays as it is.
-fn add_to(groups: &mut Groups, alloc: Global, name: Text, ids: Ids) -> Result<(), SettingsRefusal>
+pub(crate) fn add_to(
+    groups: &mut Groups,
+    alloc: Global,
+    name: Text,
+    ids: Ids,
+) -> Result<(), SettingsRefusal>
     requires { Rises ids }
     ensures { Answers (groups_with groups.old name ids) result groups.old groups.new }
 {

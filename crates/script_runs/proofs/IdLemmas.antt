@@ -8,7 +8,7 @@ use Rattle.box_geo.specs.Wrap.{Wrapped, wrap}
 use Rattle.meaning.specs.declared.output.Output.{Output}
 use Rattle.meaning.specs.declared.uses.NameUse.{NameUse}
 use Rattle.meaning.specs.MassesGroups.{ids_of}
-use Rattle.meaning.specs.Runs.{Ran, after_set_up, after_step, run_from, run_of}
+use Rattle.meaning.specs.Runs.{Ran, Snapshot, after_set_up, after_step, run_from, run_of, snapshot}
 use Rattle.serial_step.specs.Forces.{Field, force_on, with_force, with_forces}
 use Rattle.serial_step.specs.Step.{Outcome as StepOutcome, Setting, State, atoms_of, drifted, drifted_at, drifted_if, is_too_fast, kicked, kicked_again, kicked_if, moved, serial_step, set_up, wrapped_atom}
 
@@ -58,25 +58,25 @@ unfolding set_up
 set_up_ids t step atoms = with_forces_ids t.field t.sides atoms
 
 -- what follows a step, if it has no fault
-after_step_ids : (b : Bool) (t : Setting) (o : Output) (last : ℕ) (n : StepOutcome) (uses : List NameUse) (next : List NameUse → Ran) (ids : List ℕ) → ids_of n.state.atoms ≡ ids → ((u : List NameUse) → ids_of (next u).state.atoms ≡ ids) → ids_of (after_step t o last n uses next b).state.atoms ≡ ids
+after_step_ids : (b : Bool) (t : Setting) (o : Output) (last : ℕ) (n : StepOutcome) (uses : List NameUse) (next : List NameUse → Ran) (ids : List ℕ) → ids_of n.state.atoms ≡ ids → ((u : List NameUse) → ids_of (next u).end.state.atoms ≡ ids) → ids_of (after_step t o last n uses next b).end.state.atoms ≡ ids
 after_step_ids true t o last n uses next ids here rest = rest _
 after_step_ids false t o last n uses next ids here rest = here
 
-after_set_up_ids : (b : Bool) (t : Setting) (o : Output) (n : StepOutcome) (uses : List NameUse) (next : List NameUse → Ran) (ids : List ℕ) → ids_of n.state.atoms ≡ ids → ((u : List NameUse) → ids_of (next u).state.atoms ≡ ids) → ids_of (after_set_up t o n uses next b).state.atoms ≡ ids
+after_set_up_ids : (b : Bool) (t : Setting) (o : Output) (n : StepOutcome) (uses : List NameUse) (next : List NameUse → Ran) (ids : List ℕ) → ids_of n.state.atoms ≡ ids → ((u : List NameUse) → ids_of (next u).end.state.atoms ≡ ids) → ids_of (after_set_up t o n uses next b).end.state.atoms ≡ ids
 after_set_up_ids true t o n uses next ids here rest = rest _
 after_set_up_ids false t o n uses next ids here rest = here
 
-run_from_ids : (t : Setting) (o : Output) (last left : ℕ) (s : State) (uses : List NameUse) → ids_of (run_from t o last left s uses).state.atoms ≡ ids_of s.atoms
+run_from_ids : (t : Setting) (o : Output) (last left : ℕ) (s : Snapshot) (uses : List NameUse) → ids_of (run_from t o last left s uses).end.state.atoms ≡ ids_of s.state.atoms
 unfolding run_from
 run_from_ids t o last zero s uses = refl
 run_from_ids t o last (suc left) s uses =
-    let n : StepOutcome = serial_step t s in
-    after_step_ids (n.fault == no_fault) t o last n uses (λ u. run_from t o last left n.state u) (ids_of s.atoms) (step_ids t s)
-    (λ u. run_from_ids t o last left n.state u ∙ step_ids t s)
+    let n : StepOutcome = serial_step t s.state in
+    after_step_ids (n.fault == no_fault) t o last n uses (λ u. run_from t o last left (snapshot n) u) (ids_of s.state.atoms) (step_ids t s.state)
+    (λ u. run_from_ids t o last left (snapshot n) u ∙ step_ids t s.state)
 
-pub run_of_ids : (t : Setting) (o : Output) (last step : ℕ) (atoms : List Atom) (uses : List NameUse) → ids_of (run_of t o last step atoms uses).state.atoms ≡ ids_of atoms
+pub run_of_ids : (t : Setting) (o : Output) (last step : ℕ) (atoms : List Atom) (uses : List NameUse) → ids_of (run_of t o last step atoms uses).end.state.atoms ≡ ids_of atoms
 unfolding run_of
 run_of_ids t o last step atoms uses =
     let n : StepOutcome = set_up t step atoms in
-    after_set_up_ids (n.fault == no_fault) t o n uses (λ u. run_from t o last (last - step) n.state u) (ids_of atoms) (set_up_ids t step atoms)
-    (λ u. run_from_ids t o last (last - step) n.state u ∙ set_up_ids t step atoms)
+    after_set_up_ids (n.fault == no_fault) t o n uses (λ u. run_from t o last (last - step) (snapshot n) u) (ids_of atoms) (set_up_ids t step atoms)
+    (λ u. run_from_ids t o last (last - step) (snapshot n) u ∙ set_up_ids t step atoms)

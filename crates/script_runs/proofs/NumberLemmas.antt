@@ -19,9 +19,11 @@ edges s = unsigned_abs (edge s.x) + unsigned_abs (edge s.y) + unsigned_abs (edge
 square_bound : (n : ℕ) → n ≤ 2 ^ 20 → n * n ≤ n * 2 ^ 20
 square_bound n few = mul-le n n n (2 ^ 20) (omega arith) few
 
--- each atom's share of the energy
-pub pair_bound : (s : Sides) (n : ℕ) (t : Tally) → n ≤ 2 ^ 20 → IsSmall s n t → unsigned_abs t.pair ≤ n * 2 ^ 79
-pair_bound s n t few small = omega (arith, small.pair, square_bound n few)
+-- the energy of all pairs
+pub pair_bound : (s : Sides) (n : ℕ) (t : Tally) → n ≤ 2 ^ 20 → IsSmall s n t → unsigned_abs t.pair ≤ 2 ^ 97
+pair_bound s n t few small =
+    let square : n * n ≤ 2 ^ 40 = omega (arith, square_bound n few) in
+    omega (arith, small.pair, mul-le (2 ^ 58) (n * n) (2 ^ 58) (2 ^ 40) (omega arith) square)
 
 -- the virial by the edges, and by the greatest cutoff
 pub virial_bound : (s : Sides) (n : ℕ) (t : Tally) → n ≤ 2 ^ 20 → IsSmall s n t → unsigned_abs t.virial ≤ 2 ^ 81 * edges s
@@ -40,4 +42,4 @@ stored z small = to_z-of_z w128 z (fits_signed_from_abs w128 z (omega arith))
 
 -- each column of style one has its number
 pub printable_ready : (v : Values) → IsPrintable v → HasEachNumber (numbers_under v) style_one
-printable_ready v h = All-from_recursion (HasNumber (numbers_under v)) style_one (h.step, (h.temp, (h.pair, (h.molecular, (h.total, (h.press, tt))))))
+printable_ready v h = All-from_recursion (HasNumber (numbers_under v)) style_one (h.step, (h.temp, (h.energies.pair, (h.energies.molecular, (h.energies.total, (h.press, tt))))))

@@ -6,7 +6,7 @@ use Rattle.meaning.specs.declared.refusal.Refusal.TheVariants.{DiskFault, NoMemo
 use Rattle.meaning.specs.declared.refusal.Refusal.TheVariants as why
 use Rattle.meaning.specs.declared.uses.NameUse.{NameUse}
 use Rattle.meaning.specs.Outcome.{fails}
-use Rattle.meaning.specs.Runs.{Ran, halted, shows, sums_up}
+use Rattle.meaning.specs.Runs.{Ran, Snapshot, halted, shows, sums_up}
 use Rattle.meaning.specs.Sends.{Shows, put_refusal}
 use Rattle.meaning.specs.Shown.{Shown}
 use Rattle.outside.specs.declared.press.Piece.{Piece}
@@ -16,11 +16,12 @@ use Rattle.outside.specs.Sent.{plus, SendsCut, SendsFront}
 use Rattle.outside.proofs.Sending.{plus-nil, plus_after, SendsCut-after, SendsCut-more, SendsFront-after, SendsFront-more, SendsFront-none}
 use Rattle.script_runs.specs.Parts.{Begins, FailsAt, Leads, Makes, RunStopped}
 use Rattle.serial_step.specs.Step.{State}
+use Rattle.step_engine.specs.declared.tally.Tally.{Tally}
 
 -- nothing was sent yet
 pub leads_start : (whole : Ran) (old : Option (List Piece)) (before : ℕ) → Leads whole old old before before whole
 leads_start whole old before =
-    record { done = []; now_is = sym (plus-nil old); pieces_are = refl; uses_are = refl; state_is = refl; way_is = refl; pairs_are = refl }
+    record { done = []; now_is = sym (plus-nil old); pieces_are = refl; uses_are = refl; end_is = refl; way_is = refl; pairs_are = refl }
 
 -- one part after another
 pub leads_on : (whole left rest : Ran) (old mid new : Option (List Piece)) (before between counted : ℕ) → Leads whole old mid before between left → Leads left mid new between counted rest → Leads whole old new before counted rest
@@ -30,7 +31,7 @@ leads_on whole left rest old mid new before between counted f g =
       now_is = plus_after old f.done g.done f.now_is g.now_is;
       pieces_are = f.pieces_are ∙ ap (λ (w : List Piece). f.done ++ w) g.pieces_are ∙ sym (append_assoc f.done g.done rest.pieces);
       uses_are = f.uses_are ∙ g.uses_are;
-      state_is = f.state_is ∙ g.state_is;
+      end_is = f.end_is ∙ g.end_is;
       way_is = f.way_is ∙ g.way_is;
       pairs_are = f.pairs_are ∙ g.pairs_are;
     }
@@ -54,13 +55,13 @@ leads_stop NoMemory whole left old mid new before between uses f s =
 leads_stop NotBuilt whole left old mid new before between uses f s = s
 
 -- what is left was made, or stopped
-pub leads_makes : (whole left : Ran) (old mid new : Option (List Piece)) (before between counted : ℕ) (r : Result Unit Refusal) (uses : List NameUse) (state : State) → Leads whole old mid before between left → Makes left mid between r new counted uses state → Makes whole old before r new counted uses state
-leads_makes whole left old mid new before between counted (Ok x) uses state f h =
+pub leads_makes : (whole left : Ran) (old mid new : Option (List Piece)) (before between counted : ℕ) (r : Result Tally Refusal) (uses : List NameUse) (state : State) → Leads whole old mid before between left → Makes left mid between r new counted uses state → Makes whole old before r new counted uses state
+leads_makes whole left old mid new before between counted (Ok tally) uses state f h =
     record {
       way = f.way_is ∙ h.way;
       sent = all_sent whole left old mid new before between f h.sent;
       used = h.used ∙ sym f.uses_are;
-      state_is = h.state_is ∙ sym f.state_is;
+      end_is = h.end_is ∙ sym f.end_is;
       stopped = tt;
       few = omega (arith, f.pairs_are, h.few);
       exact = omega (arith, f.pairs_are, h.exact);
@@ -70,21 +71,21 @@ leads_makes whole left old mid new before between counted (Err why) uses state f
       way = tt;
       sent = tt;
       used = tt;
-      state_is = tt;
+      end_is = tt;
       stopped = leads_stop why whole left old mid new before between uses f h.stopped;
       few = omega (arith, f.pairs_are, h.few);
       exact = tt;
     }
 
 -- the first part was made, and then the rest
-pub begins_makes : (part : (List NameUse → Ran) → Ran) (next : List NameUse → Ran) (old mid new : Option (List Piece)) (before between counted : ℕ) (r : Result Unit Refusal) (first after : List NameUse) (state : State) → Begins part old before (Ok tt) mid between first → Makes (next first) mid between r new counted after state → Makes (part next) old before r new counted after state
-begins_makes part next old mid new before between counted r first after state b h =
+pub begins_makes : {T : Type 0} (part : (List NameUse → Ran) → Ran) (next : List NameUse → Ran) (old mid new : Option (List Piece)) (before between counted : ℕ) (x : T) (r : Result Tally Refusal) (first after : List NameUse) (state : State) → Begins part old before (Ok x) mid between first → Makes (next first) mid between r new counted after state → Makes (part next) old before r new counted after state
+begins_makes part next old mid new before between counted x r first after state b h =
     leads_makes (part next) (next first) old mid new before between counted r after state (b.leads next) h
 
 -- the run stopped with its first part
-pub begins_stop : (part : (List NameUse → Ran) → Ran) (next : List NameUse → Ran) (old new : Option (List Piece)) (before counted : ℕ) (why : Refusal) (uses : List NameUse) (state : State) → Begins part old before (Err why) new counted uses → Makes (part next) old before (Err why) new counted uses state
+pub begins_stop : {T : Type 0} (part : (List NameUse → Ran) → Ran) (next : List NameUse → Ran) (old new : Option (List Piece)) (before counted : ℕ) (why : Refusal) (uses : List NameUse) (state : State) → Begins {T = T} part old before (Err why) new counted uses → Makes (part next) old before (Err why) new counted uses state
 begins_stop part next old new before counted why uses state b =
-    record { way = tt; sent = tt; used = tt; state_is = tt; stopped = b.stopped next; few = b.few next; exact = tt }
+    record { way = tt; sent = tt; used = tt; end_is = tt; stopped = b.stopped next; few = b.few next; exact = tt }
 
 -- a part that sums so many terms and then shows a text
 abbrev pub shows_part : ℕ → Shown → (List NameUse → Ran) → Ran
@@ -95,10 +96,10 @@ IsPart part other = (next : List NameUse → Ran) → part next ≡ other next
 
 text_leads : (n : ℕ) (first : Shown) (next : List NameUse → Ran) (old new : Option (List Piece)) (before : ℕ) → new ≡ plus old first.pieces → Leads (shows_part n first next) old new before (before + n) (next first.uses)
 text_leads n first next old new before sent =
-    record { done = first.pieces; now_is = sent; pieces_are = refl; uses_are = refl; state_is = refl; way_is = refl; pairs_are = omega arith }
+    record { done = first.pieces; now_is = sent; pieces_are = refl; uses_are = refl; end_is = refl; way_is = refl; pairs_are = omega arith }
 
-pub part_begins : {X : Type 0} (part : (List NameUse → Ran) → Ran) (n : ℕ) (first : Shown) (old new : Option (List Piece)) (before counted : ℕ) (uses : List NameUse) (x : X) → IsPart part (shows_part n first) → counted ≡ before + n → Shows first old (Ok x) new uses → Begins part old before (Ok tt) new counted uses
-part_begins part n first old new before counted uses x is sum h =
+pub part_begins : {X T : Type 0} (part : (List NameUse → Ran) → Ran) (n : ℕ) (first : Shown) (old new : Option (List Piece)) (before counted : ℕ) (uses : List NameUse) (x : X) (y : T) → IsPart part (shows_part n first) → counted ≡ before + n → Shows first old (Ok x) new uses → Begins part old before (Ok y) new counted uses
+part_begins part n first old new before counted uses x y is sum h =
     record {
       leads = λ (next : List NameUse → Ran).
           let plain : Leads (shows_part n first next) old new before counted (next first.uses) =
@@ -113,7 +114,7 @@ halts : (why : PutRefusal) (n : ℕ) (first : Shown) (next : List NameUse → Ra
 halts put.Faulted n first next old new uses after h = SendsCut-more (next first.uses).pieces h.stopped
 halts put.NoMemory n first next old new uses after h = SendsFront-more (next first.uses).pieces h.stopped
 
-pub part_halts : (part : (List NameUse → Ran) → Ran) (n : ℕ) (first : Shown) (old new : Option (List Piece)) (before counted : ℕ) (uses : List NameUse) (why : PutRefusal) (r : Refusal) → IsPart part (shows_part n first) → counted ≡ before + n → r ≡ put_refusal why → Shows {T = Unit {0}} first old (Err why) new uses → Begins part old before (Err r) new counted uses
+pub part_halts : {T : Type 0} (part : (List NameUse → Ran) → Ran) (n : ℕ) (first : Shown) (old new : Option (List Piece)) (before counted : ℕ) (uses : List NameUse) (why : PutRefusal) (r : Refusal) → IsPart part (shows_part n first) → counted ≡ before + n → r ≡ put_refusal why → Shows {T = Unit {0}} first old (Err why) new uses → Begins {T = T} part old before (Err r) new counted uses
 part_halts part n first old new before counted uses why r is sum same h =
     record {
       leads = tt;
@@ -124,21 +125,21 @@ part_halts part n first old new before counted uses why r is sum same h =
     }
 
 -- a part that fails
-abbrev pub fails_part : ℕ → List NameUse → State → FaultKey → ℕ → (List NameUse → Ran) → Ran
-fails_part n uses state key step next = sums_up n (halted uses state (fails key step))
+abbrev pub fails_part : ℕ → List NameUse → Snapshot → FaultKey → ℕ → (List NameUse → Ran) → Ran
+fails_part n uses end key step next = sums_up n (halted uses end (fails key step))
 
-pub part_fails : (part : (List NameUse → Ran) → Ran) (n : ℕ) (state : State) (key : FaultKey) (step : ℕ) (old : Option (List Piece)) (before counted : ℕ) (uses : List NameUse) → IsPart part (fails_part n uses state key step) → counted ≤ before + n → Begins part old before (Err (Range key step)) old counted uses
-part_fails part n state key step old before counted uses is sum =
+pub part_fails : {T : Type 0} (part : (List NameUse → Ran) → Ran) (n : ℕ) (end : Snapshot) (key : FaultKey) (step : ℕ) (old : Option (List Piece)) (before counted : ℕ) (uses : List NameUse) → IsPart part (fails_part n uses end key step) → counted ≤ before + n → Begins {T = T} part old before (Err (Range key step)) old counted uses
+part_fails part n end key step old before counted uses is sum =
     record {
       leads = tt;
       stopped = λ (next : List NameUse → Ran).
-          let at : FailsAt key step (fails_part n uses state key step next) old old uses = record { way = refl; sent = sym (plus-nil old); used = refl } in
+          let at : FailsAt key step (fails_part n uses end key step next) old old uses = record { way = refl; sent = sym (plus-nil old); used = refl } in
           subst (λ (w : Ran). FailsAt key step w old old uses) (sym (is next)) at;
       few = λ (next : List NameUse → Ran). omega (arith, sum, ap (λ (w : Ran). w.pairs) (is next));
     }
 
 -- no memory for a part
-pub part_without : (n : ℕ) (rest : (List NameUse → Ran) → Ran) (old : Option (List Piece)) (before counted : ℕ) (uses : List NameUse) → counted ≤ before + n → Begins (λ next. sums_up n (rest next)) old before (Err NoMemory) old counted uses
+pub part_without : {T : Type 0} (n : ℕ) (rest : (List NameUse → Ran) → Ran) (old : Option (List Piece)) (before counted : ℕ) (uses : List NameUse) → counted ≤ before + n → Begins {T = T} (λ next. sums_up n (rest next)) old before (Err NoMemory) old counted uses
 part_without n rest old before counted uses sum =
     record {
       leads = tt;

@@ -1,5 +1,5 @@
 -- What an engine has from settings keeps to the ranges of a run, and makes the run that is meant.
-use Rattle.std.proofs.Common.{◌≡◌, ⊎_elim, ◌^◌, ◌-◌, ◌<◌, ◌≤◌, true, ℕ, ℤ, pos, ◌≤ℤ◌, int_lt, unsigned_abs, Option, Some, None, Result, List, [], ◌∷◌, length, slice_index_or, sym, ap, subst, ◌∙◌, arith}
+use Rattle.std.proofs.Common.{◌≡◌, ⊎_elim, ◌^◌, ◌-◌, ◌<◌, ◌≤◌, true, ℕ, ℤ, pos, ◌≤ℤ◌, int_lt, unsigned_abs, Option, Some, None, Result, List, [], ◌∷◌, length, slice_index_or, refl, sym, ap, subst, ◌∙◌, arith}
 use Rattle.std.specs.List.{All, AllByRecursion}
 use Rattle.std.proofs.lemmas.Bool.Decides.{nat_tests}
 use Rattle.std.proofs.lemmas.Int.{ints}
@@ -14,6 +14,7 @@ use Rattle.box_geo.specs.declared.sim_box.Axis.{Axis}
 use Rattle.box_geo.specs.declared.sim_box.Sides.{Sides}
 use Rattle.box_geo.specs.Ids.{Rises}
 use Rattle.fix_list.specs.declared.fixes.NamedFix.{NamedFix}
+use Rattle.fx_num.specs.declared.numbers.Number.{Number}
 use Rattle.fix_list.specs.Fixes.{moves}
 use Rattle.meaning.specs.declared.force.Force.{Force}
 use Rattle.meaning.specs.declared.output.Output.{Output}
@@ -24,15 +25,17 @@ use Rattle.meaning.specs.declared.uses.NameUse.{NameUse}
 use Rattle.meaning.specs.Fixes.{fixes_over}
 use Rattle.meaning.specs.MassesGroups.{are_massive, ids_of}
 use Rattle.meaning.specs.Pairs.{reach_of}
-use Rattle.meaning.specs.Runs.{Ran, run_of, setting_of}
+use Rattle.meaning.specs.Runs.{Ran, ends_as, run_of, setting_of}
 use Rattle.meaning.specs.Sound.{IsOfSetup, IsSoundAtom, IsSoundBody, IsSoundForce, IsSoundMass}
+use Rattle.meaning.specs.Thermo.{numbers_of}
 use Rattle.outside.specs.declared.press.Piece.{Piece}
 use Rattle.pair_lj.specs.declared.pair_settings.PairCoefficients.{PairCoefficients}
 use Rattle.pair_lj.specs.Pairs.{are_all_had}
 use Rattle.pair_lj.specs.Table.{Table}
 use Rattle.pair_lj.proofs.TypeLemmas.{pair_is_had}
 use Rattle.script_runs.specs.Engines.{IsEngineOf, IsTableOf}
-use Rattle.script_runs.specs.Parts.{Makes}
+use Rattle.script_runs.specs.Line.{sums_in}
+use Rattle.script_runs.specs.Parts.{Makes, stands}
 use Rattle.script_runs.proofs.IdLemmas.{run_of_ids}
 use Rattle.script_runs.proofs.TableLemmas.{all_reached, some_reach}
 use Rattle.serial_step.specs.Forces.{field_of}
@@ -42,6 +45,7 @@ use Rattle.serial_step.specs.Room.{edge_too_small}
 use Rattle.serial_step.specs.Step.{Setting, State}
 use Rattle.step_engine.specs.Engine.{World, setting_of as engine_setting, world_of}
 use Rattle.step_engine.specs.Ranges.{AreAtoms, AreRules, HasMass, IsForceField, IsMovable, IsPlaced, IsState}
+use Rattle.step_engine.specs.declared.tally.Tally.{Tally}
 use Rattle.step_engine.specs.declared.rules.ForceField.{ForceField}
 use Rattle.step_engine.specs.declared.rules.Rules.{Rules}
 
@@ -183,7 +187,7 @@ body_sound b w sound fit sides mass size same bonds angles =
     }
 
 -- what the engine makes is what is meant
-pub makes_meant : (s : Settings) (b : Body) (w : World) (fixes : List NamedFix) (last : ℕ) (dt : ℤ) (old new : Option (List Piece)) (before counted : ℕ) (r : Result Unit Refusal) (uses : List NameUse) (state : State) → dt ≡ s.setup.timestep → IsEngineOf s.force dt (length b.mass) b w
+pub makes_meant : (s : Settings) (b : Body) (w : World) (fixes : List NamedFix) (last : ℕ) (dt : ℤ) (old new : Option (List Piece)) (before counted : ℕ) (r : Result Tally Refusal) (uses : List NameUse) (state : State) → dt ≡ s.setup.timestep → IsEngineOf s.force dt (length b.mass) b w
     → fixes ≡ fixes_over s.named.groups b.atoms s.named.fixes → Makes (run_of (engine_setting w.rules fixes) s.output last w.state.step w.state.atoms s.output.uses) old before r new counted uses state
     → Makes (run_of (setting_of s b) s.output last b.step b.atoms s.output.uses) old before r new counted uses state
 makes_meant s b w fixes last dt old new before counted r uses state timestep is same h =
@@ -207,15 +211,26 @@ body_after force dt kinds b after w now is stands same =
     ∙ ap (λ (x : List Bond). with_parts now.state.step b.sides b.mass now.state.atoms x now.angles) bonds
     ∙ ap (λ (x : List Angle). with_parts now.state.step b.sides b.mass now.state.atoms b.bonds x) angles
 
-with_both : Settings → Body → Output → Settings
-with_both s b o = record s { body = Some b; output = o }
+-- the numbers of an engine are those of its settings, whatever its fixes move
+pub numbers_after : (s : Settings) (b : Body) (w now : World) (tally : Tally) (dt : ℤ) (kinds : ℕ) → IsEngineOf s.force dt kinds b w → dt ≡ s.setup.timestep → now ≡ record w { state = now.state }
+    → numbers_of (engine_setting now.rules []) now.state (sums_in tally) ≡ numbers_of (setting_of s b) now.state (sums_in tally)
+numbers_after s b w now tally dt kinds is timestep standing =
+    let fixes : List NamedFix = fixes_over s.named.groups b.atoms s.named.fixes in
+    let at : IsEngineOf s.force s.setup.timestep kinds b w = subst (λ (t : ℤ). IsEngineOf s.force t kinds b w) timestep is in
+    ap (λ (x : World). numbers_of (engine_setting x.rules fixes) now.state (sums_in tally)) standing
+    ∙ ap (λ (t : Setting). numbers_of t now.state (sums_in tally)) (setting_same s b kinds w fixes at refl)
 
-pub settings_after : (s : Settings) (b after : Body) (w now : World) (o : Output) (dt : ℤ) (kinds : ℕ) → IsEngineOf s.force dt kinds b w → now ≡ record w { state = now.state } → after ≡ body_in now → o ≡ record s.output { uses = o.uses }
-    → record s { body = Some after; output = o } ≡ record s { body = Some (record b { step = now.state.step; atoms = now.state.atoms }); output = record s.output { uses = o.uses } }
-unfolding with_both
-settings_after s b after w now o dt kinds is stands same others =
-    ap (λ (x : Body). with_both s x o) (body_after s.force dt kinds b after w now is stands same)
-    ∙ ap (λ (x : Output). with_both s (record b { step = now.state.step; atoms = now.state.atoms }) x) others
+with_all : Settings → Body → Output → List Number → Settings
+with_all s b o known = record s { body = Some b; output = o; known = known }
+
+pub settings_after : (s : Settings) (b after : Body) (w now : World) (o : Output) (known : List Number) (tally : Tally) (dt : ℤ) (kinds : ℕ) → IsEngineOf s.force dt kinds b w → dt ≡ s.setup.timestep → now ≡ record w { state = now.state } → after ≡ body_in now → o ≡ record s.output { uses = o.uses }
+    → known ≡ numbers_of (engine_setting now.rules []) now.state (sums_in tally) → record s { body = Some after; output = o; known = known } ≡ ends_as s b (stands now.state tally) o.uses
+unfolding with_all
+settings_after s b after w now o known tally dt kinds is timestep standing same others numbers =
+    let body : Body = record b { step = now.state.step; atoms = now.state.atoms } in
+    ap (λ (x : Body). with_all s x o known) (body_after s.force dt kinds b after w now is standing same)
+    ∙ ap (λ (x : Output). with_all s body x known) others
+    ∙ ap (λ (x : List Number). with_all s body (record s.output { uses = o.uses }) x) (numbers ∙ numbers_after s b w now tally dt kinds is timestep standing)
 
 pub sound_after : (s : Settings) (b after : Body) (w now : World) (dt : ℤ) → IsSoundBody b → IsEngineOf s.force dt (length b.mass) b w → now ≡ record w { state = now.state } → IsState now.rules now.state → ids_of now.state.atoms ≡ ids_of b.atoms → after ≡ body_in now → IsSoundBody after
 sound_after s b after w now dt sound is stands fit ids same =
@@ -230,5 +245,5 @@ pub dim_after : (s : Settings) (b after : Body) (w now : World) (dt : ℤ) (kind
 dim_after s b after w now dt kinds dim is stands same =
     ap (λ (x : Body). x.sides.dim) (body_after s.force dt kinds b after w now is stands same) ∙ dim
 
-pub ids_after : (s : Settings) (b : Body) (last : ℕ) (state : State) → state ≡ (run_of (setting_of s b) s.output last b.step b.atoms s.output.uses).state → ids_of state.atoms ≡ ids_of b.atoms
+pub ids_after : (s : Settings) (b : Body) (last : ℕ) (state : State) → state ≡ (run_of (setting_of s b) s.output last b.step b.atoms s.output.uses).end.state → ids_of state.atoms ≡ ids_of b.atoms
 ids_after s b last state is = ap (λ (x : State). ids_of x.atoms) is ∙ run_of_ids (setting_of s b) s.output last b.step b.atoms s.output.uses

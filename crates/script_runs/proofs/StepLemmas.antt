@@ -9,11 +9,11 @@ use Rattle.fix_list.specs.declared.fixes.NamedFix.{NamedFix}
 use Rattle.meaning.specs.declared.output.Output.{Output}
 use Rattle.meaning.specs.declared.uses.NameUse.{NameUse}
 use Rattle.meaning.specs.Outcome.{fails}
-use Rattle.meaning.specs.Runs.{Ran, after_set_up, after_step, first_shown, halted, key_of, line_shown, shown_if, shows, sums_up}
+use Rattle.meaning.specs.Runs.{Ran, Snapshot, after_set_up, after_step, first_shown, halted, key_of, line_shown, shown_if, shows, snapshot, sums_up}
 use Rattle.meaning.specs.Shown.{Shown}
 use Rattle.meaning.specs.Thermo.{is_due, thermo_line}
 use Rattle.script_runs.specs.Line.{IsShown, sums_in}
-use Rattle.script_runs.specs.Parts.{set_up_part, step_part}
+use Rattle.script_runs.specs.Parts.{set_up_part, stands, step_part}
 use Rattle.script_runs.proofs.KeyLemmas.{is_fault, is_sound, key_is}
 use Rattle.script_runs.proofs.PartLemmas.{IsPart, fails_part, shows_part}
 use Rattle.script_runs.proofs.ShowLemmas.{shown-others}
@@ -22,19 +22,19 @@ use Rattle.serial_step.specs.Rebuild.{positions}
 use Rattle.serial_step.specs.Step.{Outcome as StepOutcome, Setting, State, Sums, serial_step, set_up, sums_of}
 use Rattle.serial_step.specs.Work.{step_pairs}
 use Rattle.step_engine.specs.Engine.{IsKeyOf, World, setting_of, tally_of, with_atoms}
-use Rattle.step_engine.specs.Ranges.{IsSmall, IsState}
+use Rattle.step_engine.specs.Ranges.{IsSmall, IsState, IsTimestep}
 use Rattle.step_engine.specs.declared.rules.Rules.{Rules}
 use Rattle.step_engine.specs.declared.tally.Tally.{Tally}
 use Rattle.sums.specs.Totals.{half}
 
 -- the way on of a key
-failed : List NameUse → State → FaultKey → ℕ → Ran
-failed uses state key step = halted uses state (fails key step)
+failed : List NameUse → Snapshot → FaultKey → ℕ → Ran
+failed uses end key step = halted uses end (fails key step)
 
-failed_by : (uses : List NameUse) (state : State) (word : ℕ) (key : FaultKey) (step : ℕ) → IsKeyOf word key → state.step ≡ step → halted uses state (fails (key_of word) state.step) ≡ halted uses state (fails key step)
+failed_by : (uses : List NameUse) (end : Snapshot) (word : ℕ) (key : FaultKey) (step : ℕ) → IsKeyOf word key → end.state.step ≡ step → halted uses end (fails (key_of word) end.state.step) ≡ halted uses end (fails key step)
 unfolding failed
-failed_by uses state word key step is number =
-    ap (λ (k : FaultKey). failed uses state k state.step) (sym (key_is word key is.0 is.1)) ∙ ap (λ (n : ℕ). failed uses state key n) number
+failed_by uses end word key step is number =
+    ap (λ (k : FaultKey). failed uses end k end.state.step) (sym (key_is word key is.0 is.1)) ∙ ap (λ (n : ℕ). failed uses end key n) number
 
 -- a step without a fault, and one with a fault
 pub step_shows : (t : Setting) (o : Output) (last : ℕ) (state : State) (uses : List NameUse) → (serial_step t state).fault ≡ no_fault
@@ -44,11 +44,11 @@ step_shows t o last state uses sound next =
     ap (λ (b : Bool). sums_up (step_pairs t state) (after_step t o last n uses next b)) (is_sound n.fault sound)
 
 pub step_fails : (t : Setting) (o : Output) (last : ℕ) (state : State) (uses : List NameUse) (key : FaultKey) (step : ℕ) → IsKeyOf (serial_step t state).fault key → (serial_step t state).state.step ≡ step
-    → IsPart (step_part t o last state uses) (fails_part (step_pairs t state) uses (serial_step t state).state key step)
+    → IsPart (step_part t o last state uses) (fails_part (step_pairs t state) uses (snapshot (serial_step t state)) key step)
 step_fails t o last state uses key step is number next =
     let n : StepOutcome = serial_step t state in
     ap (λ (b : Bool). sums_up (step_pairs t state) (after_step t o last n uses next b)) (is_fault n.fault is.2)
-    ∙ ap (sums_up (step_pairs t state)) (failed_by uses n.state n.fault key step is number)
+    ∙ ap (sums_up (step_pairs t state)) (failed_by uses (snapshot n) n.fault key step is number)
 
 -- the same of set-up
 pub set_up_shows : (t : Setting) (o : Output) (step : ℕ) (atoms : List Atom) (uses : List NameUse) → (set_up t step atoms).fault ≡ no_fault
@@ -58,11 +58,11 @@ set_up_shows t o step atoms uses sound next =
     ap (λ (b : Bool). sums_up (length (half atoms)) (after_set_up t o n uses next b)) (is_sound n.fault sound)
 
 pub set_up_fails : (t : Setting) (o : Output) (step : ℕ) (atoms : List Atom) (uses : List NameUse) (key : FaultKey) → IsKeyOf (set_up t step atoms).fault key → (set_up t step atoms).state.step ≡ step
-    → IsPart (set_up_part t o step atoms uses) (fails_part (length (half atoms)) uses (set_up t step atoms).state key step)
+    → IsPart (set_up_part t o step atoms uses) (fails_part (length (half atoms)) uses (snapshot (set_up t step atoms)) key step)
 set_up_fails t o step atoms uses key is number next =
     let n : StepOutcome = set_up t step atoms in
     ap (λ (b : Bool). sums_up (length (half atoms)) (after_set_up t o n uses next b)) (is_fault n.fault is.2)
-    ∙ ap (sums_up (length (half atoms))) (failed_by uses n.state n.fault key step is number)
+    ∙ ap (sums_up (length (half atoms))) (failed_by uses (snapshot n) n.fault key step is number)
 
 -- the line of an engine in this state
 pub line_is : (w before : World) (fixes : List NamedFix) (o : Output) (last : ℕ) (state : State) (tally : Tally) (sums : Sums) (uses : List NameUse) → w ≡ record before { state = state } → tally ≡ tally_of sums
@@ -108,13 +108,14 @@ unfolding serial_step with_forces
 length-step t s = simp length-map
 
 -- an engine with small sums after a step has what a line asks
-pub step_shown : (w before : World) (t : Setting) (tally : Tally) → w ≡ record before { state = (serial_step t before.state).state } → IsState w.rules w.state → tally ≡ tally_of (serial_step t before.state).sums → IsSmall before.rules.cell.sides (length before.state.atoms) tally → IsShown w tally
-step_shown w before t tally is fit sums small =
+pub step_shown : (w before : World) (t : Setting) (tally : Tally) → w ≡ record before { state = (serial_step t before.state).state } → IsTimestep before.rules.dt → IsState w.rules w.state → tally ≡ tally_of (serial_step t before.state).sums → IsSmall before.rules.cell.sides (length before.state.atoms) tally → IsShown w tally
+step_shown w before t tally is dt fit sums small =
     let number : length before.state.atoms ≡ length w.state.atoms = sym (length-step t before.state) ∙ ap (λ (x : World). length x.state.atoms) (sym is) in
     let sides : before.rules.cell.sides ≡ w.rules.cell.sides = ap (λ (x : World). x.rules.cell.sides) (sym is) in
     record {
       step = fit.step;
       few = fit.atoms.few;
+      dt = subst (λ (x : World). IsTimestep x.rules.dt) (sym is) dt;
       movable = fit.atoms.movable;
       small = subst (λ (n : ℕ). IsSmall w.rules.cell.sides n tally) number (subst (λ (s : Sides). IsSmall s (length before.state.atoms) tally) sides small);
       bond = ap (λ (x : Tally). x.bond) sums;
@@ -123,6 +124,15 @@ step_shown w before t tally is fit sums small =
 
 pub state_next : (w before : World) (t : Setting) → w ≡ record before { state = (serial_step t before.state).state } → w.state ≡ (serial_step t before.state).state
 state_next w before t is = ap (λ (x : World). x.state) is
+
+-- where a step stands, and set-up
+pub stands_next : (w before : World) (t : Setting) (tally : Tally) → w ≡ record before { state = (serial_step t before.state).state } → tally ≡ tally_of (serial_step t before.state).sums → stands w.state tally ≡ snapshot (serial_step t before.state)
+stands_next w before t tally is sums =
+    ap (λ (x : State). stands x tally) (state_next w before t is) ∙ ap (λ (x : Tally). stands (serial_step t before.state).state x) sums
+
+pub stands_first : (w before : World) (t : Setting) (tally : Tally) → w ≡ record before { state = (set_up t before.state.step before.state.atoms).state } → tally ≡ tally_of (set_up t before.state.step before.state.atoms).sums → stands w.state tally ≡ snapshot (set_up t before.state.step before.state.atoms)
+stands_first w before t tally is sums =
+    ap (λ (x : World). stands x.state tally) is ∙ ap (λ (x : Tally). stands (set_up t before.state.step before.state.atoms).state x) sums
 
 pub number_next : (w before : World) (t : Setting) (step : ℕ) → w ≡ record before { state = (serial_step t before.state).state } → step ≡ before.state.step → step + 1 ≡ w.state.step
 number_next w before t step is number =

@@ -8,6 +8,7 @@ ghost use Rattle.meaning.specs.Sound.{IsSound};
 ghost use Rattle.script_runs.specs.Engines.{IsReady};
 
 use crate::judge::{judged_fixes, last_step};
+use crate::numbers::numbers;
 use crate::parts::{body_of, engine_of};
 use crate::steps::run_engine;
 use box_geo::limits::MAX_STEP;
@@ -18,7 +19,7 @@ use outside::Press;
 use std::alloc::Global;
 use std::sync::ledger::Ledger;
 
-/// Runs `n` steps, or up to the step of that number. It is judged before anything is changed: a code, and coefficients that would have to
+/// Runs `n` steps, or up to the step of that number. The numbers of the last step are known from then on. It is judged before anything is changed: a code, and coefficients that would have to
 /// be mixed, leave the settings as they were.
 ///
 /// # Errors
@@ -84,7 +85,7 @@ fn run_ready<P: Press, L: Ledger>(
         Ok(engine) => engine,
         Err(_) => return Err(Refusal::NoMemory),
     };
-    match run_engine(
+    let tally = match run_engine(
         alloc,
         &mut settings.output,
         &mut engine,
@@ -93,9 +94,14 @@ fn run_ready<P: Press, L: Ledger>(
         press,
         steps,
     ) {
-        Ok(()) => {}
+        Ok(tally) => tally,
         Err(why) => return Err(why),
-    }
+    };
+    let known = match numbers(alloc, &engine, &tally) {
+        Ok(known) => known,
+        Err(_) => return Err(Refusal::NoMemory),
+    };
     settings.body = Some(body_of(engine));
+    settings.known = known;
     Ok(())
 }

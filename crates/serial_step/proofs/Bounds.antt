@@ -88,21 +88,21 @@ powers_small sigma r2 apart =
     let sixth : sixth_power sigma r2 ≤ 2 ^ 44 = sixth_small (inverse_square sigma r2) (wide sigma r2 apart) in
     (sixth, twelfth_small (sixth_power sigma r2) sixth)
 
-gap_small : (s t : ℕ) → s ≤ 2 ^ 44 → t ≤ 2 ^ 56 → unsigned_abs (pos t -ℤ pos s) ≤ 2 ^ 57
+gap_small : (s t : ℕ) → s ≤ 2 ^ 44 → t ≤ 2 ^ 56 → unsigned_abs (pos t -ℤ pos s) ≤ 2 ^ 56
 gap_small s t low high = omega (arith, ints)
 
 shifted_small : (a : ℤ) (k m : ℕ) → 0 < 2 ^ k → unsigned_abs a ≤ m * 2 ^ k → unsigned_abs (shr_rounded a k) ≤ m
 shifted_small a k m some low = omega (arith, unsigned_abs-div_rounded a (pos (2 ^ k)), nearest_of-le (unsigned_abs a) (2 ^ k) m some low)
 
-energy_small : (eps sigma r2 : ℕ) → eps ≤ 2 ^ 32 → is_too_near sigma r2 ≡ false → unsigned_abs (energy_at eps sigma r2) ≤ 2 ^ 60
+energy_small : (eps sigma r2 : ℕ) → eps ≤ 2 ^ 32 → is_too_near sigma r2 ≡ false → unsigned_abs (energy_at eps sigma r2) ≤ 2 ^ 58
 unfolding energy_at
 energy_small eps sigma r2 weak apart =
     let powers = powers_small sigma r2 apart in
     let gap : ℤ = pos (twelfth_power sigma r2) -ℤ pos (sixth_power sigma r2) in
-    let small : unsigned_abs gap ≤ 2 ^ 57 = gap_small (sixth_power sigma r2) (twelfth_power sigma r2) powers.0 powers.1 in
+    let small : unsigned_abs gap ≤ 2 ^ 56 = gap_small (sixth_power sigma r2) (twelfth_power sigma r2) powers.0 powers.1 in
     let product : unsigned_abs (pos (4 * eps) *ℤ gap) ≡ 4 * eps * unsigned_abs gap = unsigned_abs-mul (pos (4 * eps)) gap in
-    let bound : 4 * eps * unsigned_abs gap ≤ 4 * 2 ^ 32 * 2 ^ 57 = mul-le (4 * eps) (unsigned_abs gap) (4 * 2 ^ 32) (2 ^ 57) (omega arith) small in
-    shifted_small (pos (4 * eps) *ℤ gap) 32 (2 ^ 60) (omega arith) (omega arith)
+    let bound : 4 * eps * unsigned_abs gap ≤ 4 * 2 ^ 32 * 2 ^ 56 = mul-le (4 * eps) (unsigned_abs gap) (4 * 2 ^ 32) (2 ^ 56) (omega arith) small in
+    shifted_small (pos (4 * eps) *ℤ gap) 32 (2 ^ 58) (omega arith) (omega arith)
 
 weighted_small : (e : ℤ) (weight m : ℕ) → weight ≤ 2 ^ 24 → unsigned_abs e ≤ m → unsigned_abs (shr_rounded (e *ℤ pos weight) 24) ≤ m
 weighted_small e weight m light small =
@@ -114,13 +114,13 @@ abbrev HasEnergyWithin : ℕ → Term → Type 0
 HasEnergyWithin bound t = unsigned_abs t.energy ≤ bound
 
 pair_term-energy : (eps sigma cut weight : ℕ) (d : List ℤ) → eps ≤ 2 ^ 32 → weight ≤ 2 ^ 24
-    → HasTerm (HasEnergyWithin (2 ^ 60)) (pair_term eps sigma cut (pos 0) weight d)
+    → HasTerm (HasEnergyWithin (2 ^ 58)) (pair_term eps sigma cut (pos 0) weight d)
 unfolding pair_term weighted_term
 pair_term-energy eps sigma cut weight d weak light =
     let e : ℤ = energy_at eps sigma (length2 d) in
-    outcome_has (HasEnergyWithin (2 ^ 60)) (nat_le (cut * cut) (length2 d)) (is_too_near sigma (length2 d)) (is_too_strong (force_along (strength eps sigma (length2 d)) d))
+    outcome_has (HasEnergyWithin (2 ^ 58)) (nat_le (cut * cut) (length2 d)) (is_too_near sigma (length2 d)) (is_too_strong (force_along (strength eps sigma (length2 d)) d))
     (weighted_term (strength eps sigma (length2 d)) (e -ℤ pos 0) weight d)
-    (λ apart mild. weighted_small (e -ℤ pos 0) weight (2 ^ 60) light (same_size e (2 ^ 60) (energy_small eps sigma (length2 d) weak apart)))
+    (λ apart mild. weighted_small (e -ℤ pos 0) weight (2 ^ 58) light (same_size e (2 ^ 58) (energy_small eps sigma (length2 d) weak apart)))
   where
     same_size : (a : ℤ) (m : ℕ) → unsigned_abs a ≤ m → unsigned_abs (a -ℤ pos 0) ≤ m
     same_size a m small = omega (arith, ints)
@@ -143,17 +143,17 @@ energy_of-within (Ok None) bound h = omega arith
 energy_of-within (Err close) bound h = omega arith
 
 -- the energy of a field whose numbers keep to their limits
-pub term_energy-within : (pairs : List PairCoefficients) (s : Sides) (i j : Atom) → All IsSoundPair pairs → unsigned_abs (energy_of (term_of (field_of pairs) s i j)) ≤ 2 ^ 60
+pub term_energy-within : (pairs : List PairCoefficients) (s : Sides) (i j : Atom) → All IsSoundPair pairs → unsigned_abs (energy_of (term_of (field_of pairs) s i j)) ≤ 2 ^ 58
 unfolding term_of
 term_energy-within pairs s i j sound =
-    energy_of-within (term_of (field_of pairs) s i j) (2 ^ 60)
-    (term_apart-has (HasEnergyWithin (2 ^ 60)) (i.id == j.id) (2 ^ 24) (numbers_at pairs i.kind j.kind) (near_image s i.x j.x)
+    energy_of-within (term_of (field_of pairs) s i j) (2 ^ 58)
+    (term_apart-has (HasEnergyWithin (2 ^ 58)) (i.id == j.id) (2 ^ 24) (numbers_at pairs i.kind j.kind) (near_image s i.x j.x)
     (λ n is. pair_term-energy n.epsilon n.sigma n.cutoff (2 ^ 24) (near_image s i.x j.x) (numbers_small pairs i.kind j.kind n sound is).epsilon (omega arith)))
 
-pub pair_energy-within : (pairs : List PairCoefficients) (s : Sides) (atoms : List Atom) → All IsSoundPair pairs → unsigned_abs (pair_energy (field_of pairs) s atoms) ≤ 2 ^ 60 * length (half atoms)
+pub pair_energy-within : (pairs : List PairCoefficients) (s : Sides) (atoms : List Atom) → All IsSoundPair pairs → unsigned_abs (pair_energy (field_of pairs) s atoms) ≤ 2 ^ 58 * length (half atoms)
 unfolding pair_energy
 pair_energy-within pairs s atoms sound =
-    total-within (λ p. energy_of (term_of (field_of pairs) s p.0 p.1)) (2 ^ 60) (half atoms) (λ p. term_energy-within pairs s p.0 p.1 sound)
+    total-within (λ p. energy_of (term_of (field_of pairs) s p.0 p.1)) (2 ^ 58) (half atoms) (λ p. term_energy-within pairs s p.0 p.1 sound)
 
 -- the nearest image is no longer than the edges
 near_along-within : (wraps : Bool) (length d : ℤ) → pos 0 <ℤ length → unsigned_abs d < unsigned_abs length → unsigned_abs (near_along wraps length d) ≤ unsigned_abs length

@@ -1,6 +1,10 @@
 pub mod CauseLemmas
 pub mod ExecuteLemmas
 pub mod FileLemmas
+pub mod KnownLemmas
+pub mod MoveLemmas
+pub mod NextLemmas
 pub mod OtherLemmas
 pub mod PlayLemmas
+pub mod StopLemmas
 pub mod WriteLemmas

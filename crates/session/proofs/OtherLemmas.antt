@@ -15,7 +15,7 @@ use Rattle.command_words.specs.declared.runs.Run.{Run}
 use Rattle.command_words.specs.declared.variables.NewVariable.{NewVariable}
 use Rattle.command_words.specs.declared.velocity.VelocityChange.{VelocityChange}
 use Rattle.meaning.specs.declared.settings.Settings.{Settings}
-use Rattle.meaning.specs.Commands.{outcome_of}
+use Rattle.meaning.specs.Commands.{carried_out}
 use Rattle.meaning.specs.Outcome.{silent, unbuilt}
 use Rattle.outside.specs.declared.files.File.{File}
 
@@ -56,7 +56,7 @@ pub record IsOther (k : Command) : Type 0 where
   pub quit_not : k ≡ command.Quit → ⊥
 
 -- it is not built
-pub others_unbuilt : (files : List File) (k : Command) (s : Settings) → IsOther k → outcome_of files k s ≡ silent s unbuilt
+pub others_unbuilt : (files : List File) (k : Command) (s : Settings) → IsOther k → carried_out files k s ≡ silent s unbuilt
 others_unbuilt files command.Units s h = absurd (h.units_not refl)
 others_unbuilt files (command.Dimension x) s h = absurd (h.dimension_not x refl)
 others_unbuilt files (command.Boundary x) s h = absurd (h.boundary_not x refl)

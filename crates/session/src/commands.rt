@@ -1,6 +1,6 @@
 //! Each command by its function.
 ghost use Rattle.meaning.specs.Causes.{Counted, Kept, Rests, Stays, nothing_lent, seen_of};
-ghost use Rattle.meaning.specs.Commands.{atoms_of_style, fix_of, group_of, outcome_of};
+ghost use Rattle.meaning.specs.Commands.{atoms_of_style, carried_out, changes_system, fix_of, group_of, outcome_of};
 ghost use Rattle.command_words.specs.Limits.{KeepsLimits};
 ghost use Rattle.meaning.specs.Sends.{Changes, Executes};
 ghost use Rattle.meaning.specs.Sound.{IsSound};
@@ -16,19 +16,36 @@ use box_geo::AtomStyle;
 use command_words::{Command, FixStyle, GroupChange, Members, NewFix};
 use disk_outside::Disk;
 use external_force::{Callback, External, ExternalView, PullRule};
-use fx_num::Steps;
+use fx_num::{Numbers, Steps};
 use meaning::{Going, Refusal, Settings};
 use outside::{Gate, Press, Shelf};
 use run_settings::{
-    add_fix, add_region, change_group, change_velocities, create_atoms, create_box, remove_fix,
-    reset_timestep, set_atom_style, set_boundary, set_comm_cutoff, set_dimension, set_lattice,
-    set_masses, set_pair_coefficients, set_pair_style, set_processors, set_skin, set_thermo,
-    set_timestep,
+    add_fix, add_region, change_group, change_velocities, create_atoms, create_box,
+    group_by_values, remove_fix, reset_timestep, set_atom_style, set_boundary, set_comm_cutoff,
+    set_dimension, set_lattice, set_masses, set_pair_coefficients, set_pair_style, set_processors,
+    set_skin, set_thermo, set_timestep,
 };
 use script_runs::run;
 use std::alloc::Global;
 use std::sync::ledger::Ledger;
 use std::thread::Threads;
+
+/// Whether a command changes the system, whatever it changed: what the last run knew then holds no more.
+fn changes_system(command: &Command) -> bool
+    ensures { result ≡ changes_system command.now }
+{
+    match command {
+        Command::CreateBox(_)
+        | Command::CreateAtoms(_)
+        | Command::ReadData(_)
+        | Command::Mass(_)
+        | Command::Velocity(_)
+        | Command::Timestep(_)
+        | Command::ResetTimestep(_)
+        | Command::Clear => true,
+        _ => false,
+    }
+}
 
 /// Carries a command out.
 ///
@@ -37,6 +54,52 @@ use std::thread::Threads;
 /// The code of the command; the key and the step of a range fault; `NotBuilt`; `ReadFault` and `WriteFault` only where the shelf or
 /// the press failed; `NoMemory`.
 pub fn execute<
+    T: Threads + Sync,
+    S: Shelf,
+    P: Press,
+    D: Disk,
+    G: Gate,
+    F: Fn(&ExternalView) -> [i64; 3] + Callback,
+    R: PullRule,
+    L: Ledger,
+>(
+    rt: &T,
+    alloc: Global,
+    settings: &mut Settings,
+    command: Command,
+    shelf: &mut S,
+    press: &mut P,
+    disk: &mut D,
+    gate: &G,
+    external: &External<F, R>,
+    steps: &mut Steps<L>,
+) -> Result<Going, Refusal>
+    requires sound { IsSound settings.old }
+    requires limits { KeepsLimits command }
+    ensures does { (files : List File) → (S.seen shelf.old).stock ≡ Some files → Executes (outcome_of files command settings.old) (P.seen press.old).sent result (P.seen press.new).sent settings.new }
+    ensures counted { (files : List File) → (S.seen shelf.old).stock ≡ Some files → Counted (outcome_of files command settings.old).pairs steps.old result steps.new }
+    ensures sound { OnOk result (IsSound settings.new) }
+    ensures cause { IfErr result (λ why. Rests why (seen_of (S.seen shelf.old) (P.seen press.old) (D.view disk.old).faults) (seen_of (S.seen shelf.new) (P.seen press.new) (D.view disk.new).faults)) }
+    ensures kept { Kept (seen_of (S.seen shelf.old) (P.seen press.old) (D.view disk.old).faults) (seen_of (S.seen shelf.new) (P.seen press.new) (D.view disk.new).faults) }
+    ensures stays { Stays result (seen_of (S.seen shelf.old) (P.seen press.old) (D.view disk.old).faults) (seen_of (S.seen shelf.new) (P.seen press.new) (D.view disk.new).faults) }
+{
+    let changes = changes_system(&command);
+    match carry_out(
+        rt, alloc, settings, command, shelf, press, disk, gate, external, steps,
+    ) {
+        Ok(Going::On) => {
+            if changes {
+                settings.known = Numbers::new(alloc);
+            }
+            Ok(Going::On)
+        }
+        Ok(Going::Quit) => Ok(Going::Quit),
+        Err(why) => Err(why),
+    }
+}
+
+/// Carries a command out, by itself.
+fn carry_out<
     T: Threads + Sync,
     S: Shelf,
     P: Press,
@@ -59,8 +122,8 @@ pub fn execute<
 ) -> Result<Going, Refusal>
     requires sound { IsSound settings.old }
     requires limits { KeepsLimits command }
-    ensures does { (files : List File) → (S.seen shelf.old).stock ≡ Some files → Executes (outcome_of files command settings.old) (P.seen press.old).sent result (P.seen press.new).sent settings.new }
-    ensures counted { (files : List File) → (S.seen shelf.old).stock ≡ Some files → Counted (outcome_of files command settings.old).pairs steps.old result steps.new }
+    ensures does { (files : List File) → (S.seen shelf.old).stock ≡ Some files → Executes (carried_out files command settings.old) (P.seen press.old).sent result (P.seen press.new).sent settings.new }
+    ensures counted { (files : List File) → (S.seen shelf.old).stock ≡ Some files → Counted (carried_out files command settings.old).pairs steps.old result steps.new }
     ensures sound { OnOk result (IsSound settings.new) }
     ensures cause { IfErr result (λ why. Rests why (seen_of (S.seen shelf.old) (P.seen press.old) (D.view disk.old).faults) (seen_of (S.seen shelf.new) (P.seen press.new) (D.view disk.new).faults)) }
     ensures kept { Kept (seen_of (S.seen shelf.old) (P.seen press.old) (D.view disk.old).faults) (seen_of (S.seen shelf.new) (P.seen press.new) (D.view disk.new).faults) }
@@ -134,19 +197,23 @@ fn set_style(settings: &mut Settings, style: AtomStyle) -> Result<(), Refusal>
     }
 }
 
-/// `group`; by the values of a variable it is not built yet.
+/// `group`.
 fn set_group(alloc: Global, settings: &mut Settings, change: GroupChange) -> Result<(), Refusal>
     requires sound { IsSound settings.old }
     ensures changes { Changes (group_of change.members change settings.old) result settings.new }
     ensures sound { OnOk result (IsSound settings.new) }
     ensures cause { IfErr result (λ why. Rests why nothing_lent nothing_lent) }
 {
-    if let Members::Variable(_) = change.members {
-        return Err(Refusal::NotBuilt);
-    }
-    match change_group(settings, alloc, change) {
-        Ok(()) => Ok(()),
-        Err(why) => Err(widened(why)),
+    let GroupChange { id, members } = change;
+    match members {
+        Members::Variable(name) => match group_by_values(settings, alloc, id, &name) {
+            Ok(()) => Ok(()),
+            Err(why) => Err(widened(why)),
+        },
+        members => match change_group(settings, alloc, GroupChange { id, members }) {
+            Ok(()) => Ok(()),
+            Err(why) => Err(widened(why)),
+        },
     }
 }
 

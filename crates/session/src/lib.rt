@@ -4,11 +4,15 @@
 
 mod answers;
 mod commands;
+mod conditions;
+mod flow;
 mod line;
+mod next_line;
 mod output;
 mod script;
 mod session;
 mod status;
+mod stops;
 mod system_files;
 mod texts;
 mod variables;
@@ -17,4 +21,4 @@ pub use commands::execute;
 pub use script::{play, refuse};
 pub use session::begun_with;
 pub use status::Status;
-pub use system_files::fetch;
+pub use system_files::fetch_script;

@@ -3,9 +3,9 @@ ghost use Rattle.meaning.specs.Answers.{Answers, Gets};
 ghost use Rattle.meaning.specs.Causes.{Kept, Rests, Stays, press_alone};
 ghost use Rattle.meaning.specs.Output.{line_in, line_of, log, print};
 ghost use Rattle.meaning.specs.Sends.{Does};
-ghost use Rattle.meaning.specs.Sound.{IsSound};
+ghost use Rattle.meaning.specs.Sound.{IsSound, IsSoundBody};
 ghost use Rattle.meaning.specs.Variables.{text_of};
-ghost use Rattle.std.specs.Prelude.{◌≡◌, IfErr, IfOk, OnOk};
+ghost use Rattle.std.specs.Prelude.{◌≡◌, IfErr, IfOk, IfSome, OnOk};
 
 use crate::answers::widened;
 use crate::texts::text_of;
@@ -26,6 +26,7 @@ fn line_of(alloc: Global, text: &Text) -> Result<Text, NoMemory>
 
 /// The line that `print` shows.
 fn printed(alloc: Global, settings: &Settings, text: &Text) -> Result<Text, SettingsRefusal>
+    requires { IfSome settings.now.body IsSoundBody }
     ensures { Gets (line_in (text_of settings.now text.now)) result }
 {
     let text = text_of(alloc, settings, text)?;

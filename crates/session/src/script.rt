@@ -1,22 +1,25 @@
 //! Scripts, line by line.
-ghost use Rattle.log_output.specs.Errors.{fault_text};
+ghost use Rattle.box_geo.specs.declared.limits.TheConstants.{MAX_SCRIPT_BYTES};
+ghost use Rattle.log_output.specs.Errors.{budget_text, fault_text};
 ghost use Rattle.meaning.specs.Causes.{Kept, seen_of};
-ghost use Rattle.meaning.specs.Play.{End, ends_telling, failed_at, play, refused_line, unread_line};
+ghost use Rattle.meaning.specs.Play.{End, begun, budget_at, ends_telling, failed_at, play, refused_line};
 ghost use Rattle.meaning.specs.Sound.{IsSound};
 ghost use Rattle.outside.specs.declared.files.File.{File};
-ghost use Rattle.session.specs.Ends.{EndsAs, EndsLine, IsTold, StatusCounted, StatusRests, StatusStays, line_status, status_of, unread_status};
-ghost use Rattle.std.specs.Prelude.{◌≡◌, ◌<◌, ◌≤◌, ◌^◌, ℕ, List, Some, length, IfOk};
+ghost use Rattle.session.specs.Ends.{EndsAs, EndsLine, EndsStop, IsTold, StatusCounted, StatusRests, StatusStays, line_status, status_of, stop_status};
+ghost use Rattle.std.specs.Prelude.{◌≡◌, ◌≤◌, ℕ, List, Some, length, IfOk};
 
 use crate::line::run_line;
+use crate::next_line::next_line;
 use crate::status::Status;
+use crate::stops::Stop;
 use box_geo::FaultKey;
+use control_flow::Flow;
 use disk_outside::Disk;
 use external_force::{Callback, External, ExternalView, PullRule};
 use fx_num::{NoMemory, Steps, Text};
-use log_output::{fault_text, refusal_text};
-use meaning::{Code, Going, Output, Refusal, Settings};
+use log_output::{budget_text, fault_text, refusal_text};
+use meaning::{Code, Going, Output, Pending, Progress, Refusal, Settings};
 use outside::{Gate, Press, PutRefusal, Shelf};
-use script_lines::{LineRefusal, Place, line_from};
 use script_runs::show;
 use std::alloc::Global;
 use std::sync::ledger::Ledger;
@@ -126,31 +129,66 @@ fn end_by<P: Press>(
     }
 }
 
-/// Ends a script at a line that can't be read.
-fn end_unread<P: Press>(
+/// Shows that a script would run more lines than it may.
+fn exceed<P: Press>(
     alloc: Global,
     output: &mut Output,
-    why: LineRefusal,
-    file: &Text,
+    file: Text,
+    line: u32,
     press: &mut P,
 ) -> Status
-    ensures ends { EndsAs result (P.seen press.old).sent (unread_line output.old file.now why) (P.seen press.new).sent }
-    ensures told { IsTold (unread_status why file.now) result (P.seen press.old).faults (P.seen press.new).faults }
+    ensures ends { EndsAs result (P.seen press.old).sent (ends_telling output.old (budget_text file line) (budget_at file line)) (P.seen press.new).sent }
+    ensures told { IsTold (Status.Budget file line) result (P.seen press.old).faults (P.seen press.new).faults }
     ensures kept { (P.seen press.old).faults ≤ (P.seen press.new).faults }
 {
-    match why {
-        LineRefusal::UnclosedQuote(line) => {
-            refuse(alloc, output, Code::UnclosedQuote, file, line, press)
-        }
-        LineRefusal::ContinuationAtEnd(line) => {
-            refuse(alloc, output, Code::ContinuationAtEnd, file, line, press)
-        }
-        LineRefusal::QuoteTail(line) => refuse(alloc, output, Code::QuoteTail, file, line, press),
-        LineRefusal::NoMemory => Status::NoMemory,
+    match budget_text(alloc, file.as_bytes(), line) {
+        Ok(text) => tell(alloc, output, &text, Status::Budget { file, line }, press),
+        Err(_) => Status::NoMemory,
     }
 }
 
-/// Plays the script of a text, whose file has this name: its lines one after another.
+/// Ends a script at the last line of its flow, behind which it does not go on.
+fn end_at<P: Press>(
+    alloc: Global,
+    output: &mut Output,
+    stop: Stop,
+    flow: &Flow,
+    press: &mut P,
+) -> Status
+    ensures ends { EndsStop stop output.old flow.now.last.file flow.now.last.number result (P.seen press.old).sent (P.seen press.new).sent }
+    ensures told { IsTold (stop_status stop flow.now.last.file flow.now.last.number) result (P.seen press.old).faults (P.seen press.new).faults }
+    ensures kept { (P.seen press.old).faults ≤ (P.seen press.new).faults }
+{
+    match stop {
+        Stop::Command(why) => {
+            end_by(
+                alloc,
+                output,
+                why,
+                flow.last_file(),
+                flow.last_number(),
+                press,
+            )
+        }
+        Stop::Refused(code, file, line) => refuse(alloc, output, code, &file, line, press),
+        Stop::Budget(file, line) => exceed(alloc, output, file, line, press),
+    }
+}
+
+/// How far the script of a file is at its start.
+fn begun(alloc: Global, file: &Text, text: &Text) -> Result<Progress, NoMemory>
+    requires short { length text.now ≤ MAX_SCRIPT_BYTES }
+    ensures { IfOk result (λ progress. progress ≡ begun file.now text.now) }
+{
+    let flow = Flow::new(alloc, file.copy(alloc)?, text.copy(alloc)?)?;
+    Ok(Progress {
+        flow,
+        pending: Pending::new(alloc),
+    })
+}
+
+/// Plays the script of a text of at most [`MAX_SCRIPT_BYTES`](box_geo::limits::MAX_SCRIPT_BYTES) bytes, whose file has this name: its
+/// lines one after another, through the files that they lead to.
 pub fn play<
     T: Threads + Sync,
     S: Shelf,
@@ -174,7 +212,7 @@ pub fn play<
     steps: &mut Steps<L>,
 ) -> Status
     requires sound { IsSound settings }
-    requires short { length text.now < 2 ^ 32 }
+    requires short { length text.now ≤ MAX_SCRIPT_BYTES }
     ensures ends { (files : List File) → (S.seen shelf.old).stock ≡ Some files → EndsAs result (P.seen press.old).sent (play files file.now text.now settings) (P.seen press.new).sent }
     ensures counted { (files : List File) → (S.seen shelf.old).stock ≡ Some files → StatusCounted (play files file.now text.now settings).pairs steps.old result steps.new }
     ensures cause { StatusRests result (seen_of (S.seen shelf.old) (P.seen press.old) (D.view disk.old).faults) (seen_of (S.seen shelf.new) (P.seen press.new) (D.view disk.new).faults) }
@@ -183,18 +221,24 @@ pub fn play<
     ensures no_usage { (place : ℕ) → result ≡ Status.Usage place → ⊥ }
 {
     let mut settings = settings;
-    let mut place = Place::start();
+    let mut progress = match begun(alloc, file, text) {
+        Ok(progress) => progress,
+        Err(_) => return Status::NoMemory,
+    };
     loop {
-        let line = match line_from(alloc, text.as_bytes(), place) {
-            Ok(Some(line)) => line,
+        let words = match next_line(alloc, &mut progress) {
+            Ok(Some(words)) => words,
             Ok(None) => return Status::Done,
-            Err(why) => return end_unread(alloc, &mut settings.output, why, file, press),
+            Err(stop) => {
+                return end_at(alloc, &mut settings.output, stop, &progress.flow, press);
+            }
         };
         match run_line(
             rt,
             alloc,
             &mut settings,
-            &line.words,
+            &mut progress,
+            &words,
             shelf,
             press,
             disk,
@@ -202,10 +246,10 @@ pub fn play<
             external,
             steps,
         ) {
-            Ok(Going::On) => place = line.next,
+            Ok(Going::On) => {}
             Ok(Going::Quit) => return Status::Done,
-            Err(why) => {
-                return end_by(alloc, &mut settings.output, why, file, line.number, press);
+            Err(stop) => {
+                return end_at(alloc, &mut settings.output, stop, &progress.flow, press);
             }
         }
     }

@@ -8,7 +8,7 @@ ghost use Rattle.std.specs.Prelude.{◌≡◌, IfErr, IfOk, OnOk};
 
 use box_geo::AtomStyle;
 use box_geo::limits::{DEFAULT_SKIN, DEFAULT_TIMESTEP};
-use fx_num::NoMemory;
+use fx_num::{NoMemory, Numbers};
 use meaning::{FixSettings, Force, Named, Output, PairSettings, Refusal, Settings, Setup};
 use regions_groups::{Groups, Regions};
 use std::alloc::Global;
@@ -64,6 +64,7 @@ pub fn begun_with(alloc: Global, output: Output, vars: Vars) -> Result<Settings,
         named,
         output: Output { every: 0, ..output },
         vars,
+        known: Numbers::new(alloc),
     })
 }
 
@@ -82,5 +83,6 @@ pub(crate) fn clear(alloc: Global, settings: &mut Settings) -> Result<(), Refusa
     settings.force = first_force(alloc);
     settings.named = named;
     settings.output.every = 0;
+    settings.known = Numbers::new(alloc);
     Ok(())
 }

@@ -25,6 +25,8 @@ pub enum Status {
     NoMemory,
     /// The words are no command line: the place of the first wrong word, or the number of words where one is missing.
     Usage { place: u64 },
+    /// A line is one more than a script may run.
+    Budget { file: Text, line: u32 },
     /// A command of this line is not built yet.
     NotBuilt { file: Text, line: u32 },
 }
@@ -43,6 +45,7 @@ impl Status {
             Status::DiskFault => 5,
             Status::NoMemory => 6,
             Status::Usage { .. } => 7,
+            Status::Budget { .. } => 8,
             Status::NotBuilt { .. } => 9,
         }
     }

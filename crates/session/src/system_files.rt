@@ -3,16 +3,18 @@ ghost use Rattle.meaning.specs.Causes.{Kept, Rests, Stays, nothing_lent, press_a
 ghost use Rattle.meaning.specs.Sends.{Changes, Does, Shows};
 ghost use Rattle.meaning.specs.Shown.{put_anew};
 ghost use Rattle.meaning.specs.Sound.{IsSound};
-ghost use Rattle.meaning.specs.SystemFiles.{fetched, read_data, text_of_body, with_data, write_data};
+ghost use Rattle.meaning.specs.SystemFiles.{fetched, read_data, text_of_body, with_data, within, write_data};
 ghost use Rattle.data_file.specs.Data.{data_of};
 ghost use Rattle.outside.specs.declared.files.File.{File};
 ghost use Rattle.outside.specs.declared.shelf.TheConstants.{MAX_FETCHED};
 ghost use Rattle.session.specs.Ends.{GetsFile};
+ghost use Rattle.session.specs.Stops.{ScriptRests};
 ghost use Rattle.outside.specs.Stock.{Rose};
-ghost use Rattle.std.specs.Prelude.{◌≡◌, ◌≤◌, List, Some, length, IfErr, IfOk, IsErrOf, OnOk};
+ghost use Rattle.std.specs.Prelude.{◌≡◌, ◌≤◌, List, Some, length, IfErr, IfNone, IfOk, IsErrOf, OnOk};
 
 use crate::answers::widened;
 use box_geo::AtomStyle;
+use box_geo::limits::MAX_SCRIPT_BYTES;
 use data_file::{DataRefusal, read_data as data_of};
 use data_text::write_data as text_of_data;
 use fx_num::{NoMemory, Text};
@@ -22,7 +24,7 @@ use run_settings::take_data;
 use std::alloc::Global;
 
 /// The text of a file.
-pub fn fetch<S: Shelf>(alloc: Global, shelf: &mut S, name: &Text) -> Result<Text, Refusal>
+fn fetch<S: Shelf>(alloc: Global, shelf: &mut S, name: &Text) -> Result<Text, Refusal>
     ensures told { (files : List File) → (S.seen shelf.old).stock ≡ Some files → GetsFile (fetched MAX_FETCHED files name.now) result }
     ensures short { IfOk result (λ text. length text ≤ MAX_FETCHED) }
     ensures cause { IfErr result (λ why. Rests why (shelf_alone (S.seen shelf.old)) (shelf_alone (S.seen shelf.new))) }
@@ -35,6 +37,42 @@ pub fn fetch<S: Shelf>(alloc: Global, shelf: &mut S, name: &Text) -> Result<Text
         Err(FetchRefusal::TooLong(_)) => Err(Refusal::Code(Code::FileTooLong)),
         Err(FetchRefusal::Faulted) => Err(Refusal::ReadFault),
         Err(FetchRefusal::NoMemory) => Err(Refusal::NoMemory),
+    }
+}
+
+/// A text, if it is short enough for a script.
+fn short_enough(text: Text) -> Result<Text, Refusal>
+    ensures is { GetsFile (within MAX_SCRIPT_BYTES (Some text)) result }
+    ensures short { IfOk result (λ text. length text ≤ MAX_SCRIPT_BYTES) }
+    ensures only { (code : Code) → IsErrOf result (Refusal.Code code) → code ≡ Code.FileTooLong }
+    ensures no_fault { IsErrOf result Refusal.ReadFault → ⊥ }
+{
+    if text.as_bytes().len() <= MAX_SCRIPT_BYTES {
+        Ok(text)
+    } else {
+        Err(Refusal::Code(Code::FileTooLong))
+    }
+}
+
+/// The text of a script's file.
+///
+/// # Errors
+///
+/// `NoFile` where the file is missing, `FileTooLong` where it has more than [`MAX_SCRIPT_BYTES`] bytes, a fault of the shelf,
+/// and want of memory.
+pub fn fetch_script<S: Shelf>(alloc: Global, shelf: &mut S, name: &Text) -> Result<Text, Refusal>
+    ensures told { (files : List File) → (S.seen shelf.old).stock ≡ Some files → GetsFile (fetched MAX_SCRIPT_BYTES files name.now) result }
+    ensures short { IfOk result (λ text. length text ≤ MAX_SCRIPT_BYTES) }
+    ensures absent { IsErrOf result (Refusal.Code Code.NoFile) → IfNone (S.seen shelf.old).stock (Rose (S.seen shelf.old).absent (S.seen shelf.new).absent) }
+    ensures cause { IfErr result (λ why. ScriptRests why (shelf_alone (S.seen shelf.old)) (shelf_alone (S.seen shelf.new))) }
+    ensures read { IsErrOf result Refusal.ReadFault → Rose (S.seen shelf.old).faults (S.seen shelf.new).faults }
+    ensures kept { Kept (shelf_alone (S.seen shelf.old)) (shelf_alone (S.seen shelf.new)) }
+    ensures stays { Stays result (shelf_alone (S.seen shelf.old)) (shelf_alone (S.seen shelf.new)) }
+    ensures faults_stay { (IsErrOf result Refusal.ReadFault → ⊥) → (S.seen shelf.new).faults ≡ (S.seen shelf.old).faults }
+{
+    match fetch(alloc, shelf, name) {
+        Ok(text) => short_enough(text),
+        Err(why) => Err(why),
     }
 }
 

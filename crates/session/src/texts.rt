@@ -1,60 +1,48 @@
 //! Texts with what stands for their names: the values of variables.
 ghost use Rattle.meaning.specs.Answers.{Gets};
-ghost use Rattle.meaning.specs.Variables.{coded, fault_code, formula_code, table_of, text_of};
+ghost use Rattle.meaning.specs.Sound.{IsSoundBody};
+ghost use Rattle.meaning.specs.Variables.{coded, formula_of, table_of, text_of};
 ghost use Rattle.script_lines.specs.Substitution.{substitution};
-ghost use Rattle.session.specs.Refusals.{expand_refusal};
-ghost use Rattle.std.specs.Prelude.{◌≡◌};
+ghost use Rattle.session.specs.Refusals.{expand_refusal, next_refusal};
+ghost use Rattle.std.specs.Prelude.{◌≡◌, IfSome};
 
-use fx_num::{FormulaFault, Numbers, Text, VarFault, Words};
-use meaning::{Code, Settings, SettingsRefusal};
+use fx_num::{Numbers, Text, VarFault, Words};
+use meaning::{Code, Refusal, Settings, SettingsRefusal, fault_code, fault_refusal, known_in};
 use script_lines::{ExpandRefusal, RawWords, Texts, expand, words_of};
 use std::alloc::Global;
 use var_table::Vars;
+use variable_values::formula_text;
 
-/// The texts of variables. Formulas have none yet.
+/// The texts of variables and of the values of formulas.
 #[derive(Clone, Copy)]
 struct Values<'a> {
     /// The variables.
     vars: &'a Vars,
+    /// The numbers that are known.
+    known: &'a Numbers,
 }
 
 impl<'a> Texts for Values<'a> {
-    ghost use Rattle.meaning.specs.Variables.{table_of};
+    ghost use Rattle.meaning.specs.Variables.{table_over};
 
-    ghost table = { λ v. table_of v.vars.now };
+    ghost table = { λ v. table_over v.vars.now v.known.now };
 
     fn name_text(&self, alloc: Global, name: &[u8]) -> Result<Text, VarFault> {
-        self.vars.text_of(alloc, name, &Numbers::new(alloc))
+        variable_values::text_of(alloc, self.vars, name, self.known)
     }
 
     fn formula_text(&self, alloc: Global, formula: &[u8]) -> Result<Text, VarFault> {
-        Err(VarFault::UnknownVariable(Text::from_bytes(alloc, formula)?))
+        formula_text(alloc, self.vars, formula, self.known)
     }
 }
 
-/// The code of a formula's fault.
-fn formula_code(fault: &FormulaFault) -> Code
-    ensures { result ≡ formula_code fault.now }
+/// Why variables have no next value.
+pub(crate) fn next_refusal(fault: &VarFault) -> Refusal
+    ensures { result ≡ next_refusal fault.now }
 {
     match fault {
-        FormulaFault::Syntax(_) | FormulaFault::NoMemory => Code::Syntax,
-        FormulaFault::Unknown(_) => Code::UnknownName,
-        FormulaFault::DivideByZero(_) => Code::DivideByZero,
-        FormulaFault::Range(_) => Code::FormulaRange,
-        FormulaFault::NotNumber(_) => Code::NotNumber,
-        FormulaFault::TooDeep => Code::TooDeep,
-    }
-}
-
-/// The code of a variable's fault.
-fn fault_code(fault: &VarFault) -> Code
-    ensures { result ≡ fault_code fault.now }
-{
-    match fault {
-        VarFault::UnknownVariable(_) | VarFault::NoMemory => Code::UnknownName,
-        VarFault::Mixed(_) => Code::Mixed,
-        VarFault::NotText(_) => Code::NotText,
-        VarFault::Formula(fault) => formula_code(fault),
+        VarFault::NoMemory => Refusal::NoMemory,
+        fault => Refusal::Code(fault_code(fault)),
     }
 }
 
@@ -75,10 +63,13 @@ pub(crate) fn text_of(
     settings: &Settings,
     text: &Text,
 ) -> Result<Text, SettingsRefusal>
+    requires sound { IfSome settings.now.body IsSoundBody }
     ensures { Gets (text_of settings.now text.now) result }
 {
+    let known = known_in(alloc, settings)?;
     let values = Values {
         vars: &settings.vars,
+        known: &known,
     };
     match expand(alloc, text.as_bytes(), &values) {
         Ok(text) => Ok(text),
@@ -92,13 +83,32 @@ pub(crate) fn substituted(
     settings: &Settings,
     words: &RawWords,
 ) -> Result<Words, SettingsRefusal>
-    ensures { Gets (coded (substitution (table_of settings.now.vars) words.now)) result }
+    requires sound { IfSome settings.now.body IsSoundBody }
+    ensures { Gets (coded (substitution (table_of settings.now) words.now)) result }
 {
+    let known = known_in(alloc, settings)?;
     let values = Values {
         vars: &settings.vars,
+        known: &known,
     };
     match words_of(alloc, words, &values) {
         Ok(words) => Ok(words),
         Err(why) => Err(refusal_of(&why)),
+    }
+}
+
+/// The value of a formula's text, in units.
+pub(crate) fn formula_value(
+    alloc: Global,
+    settings: &Settings,
+    text: &Text,
+) -> Result<i64, SettingsRefusal>
+    requires sound { IfSome settings.now.body IsSoundBody }
+    ensures { Gets (formula_of settings.now text.now) result }
+{
+    let known = known_in(alloc, settings)?;
+    match variable_values::formula_value(alloc, &settings.vars, text.as_bytes(), &known, 0) {
+        Ok(value) => Ok(value),
+        Err(fault) => Err(fault_refusal(&fault)),
     }
 }

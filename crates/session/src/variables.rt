@@ -49,7 +49,7 @@ fn define_text(
     }
 }
 
-/// `variable`. Those that hold formulas are not built yet.
+/// `variable`. A formula is kept as it is written.
 pub(crate) fn set_variable(
     alloc: Global,
     settings: &mut Settings,
@@ -64,7 +64,8 @@ pub(crate) fn set_variable(
     match style {
         VariableStyle::Index(values) => define(alloc, settings, &name, VarStyle::Index(values)),
         VariableStyle::Loop(range) => define(alloc, settings, &name, loop_of(range)),
-        VariableStyle::Equal(_) | VariableStyle::Atom(_) => Err(Refusal::NotBuilt),
+        VariableStyle::Equal(formula) => define(alloc, settings, &name, VarStyle::Equal(formula)),
+        VariableStyle::Atom(formula) => define(alloc, settings, &name, VarStyle::AtomWise(formula)),
         VariableStyle::Plain(text) => define_text(alloc, settings, &name, &text),
         VariableStyle::Delete => {
             settings.vars.delete(&name);

@@ -28,7 +28,7 @@ pub sums_small : (table : Table) (s : Sides) (atoms : List Atom) (t : Tally) →
 sums_small table s atoms t pair virial finished placed =
     let inside : All (λ a. IsInside s a.x) atoms = All-weaker (IsPlaced table s) (λ a. IsInside s a.x) (λ a h. h.inside) atoms placed in
     record {
-      pair = rw pair (twice (unsigned_abs (pair_energy (field_of table.pairs) s atoms)) (2 ^ 60) (length (half atoms)) (length atoms) (pair_energy-within table.pairs s atoms finished.sound) (length-half atoms));
+      pair = rw pair (twice (unsigned_abs (pair_energy (field_of table.pairs) s atoms)) (2 ^ 58) (length (half atoms)) (length atoms) (pair_energy-within table.pairs s atoms finished.sound) (length-half atoms));
       virial = rw virial (twice (unsigned_abs (pair_virial (field_of table.pairs) s atoms)) (2 ^ 42 * (unsigned_abs (edge s.x) + unsigned_abs (edge s.y) + unsigned_abs (edge s.z))) (length (half atoms)) (length atoms)
           (pair_virial-within (field_of table.pairs) s atoms (field_of-light table.pairs) inside) (length-half atoms));
       reached = rw virial (twice (unsigned_abs (pair_virial (field_of table.pairs) s atoms)) (3 * 2 ^ 70) (length (half atoms)) (length atoms) (pair_virial-reached table.pairs s atoms finished.sound) (length-half atoms));

@@ -72,6 +72,6 @@ pub record IsState (r : Rules) (s : State) : Type 0 where
 
 -- the sums of an evaluation over so many atoms in a box are far within 128 bits
 pub record IsSmall (s : Sides) (n : ℕ) (t : Tally) : Type 0 where
-  pub pair : 2 * unsigned_abs t.pair ≤ 2 ^ 60 * (n * n)
+  pub pair : 2 * unsigned_abs t.pair ≤ 2 ^ 58 * (n * n)
   pub virial : 2 * unsigned_abs t.virial ≤ 2 ^ 42 * (unsigned_abs (edge s.x) + unsigned_abs (edge s.y) + unsigned_abs (edge s.z)) * (n * n)
   pub reached : 2 * unsigned_abs t.virial ≤ 3 * 2 ^ 70 * (n * n)

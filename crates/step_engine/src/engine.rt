@@ -277,6 +277,13 @@ impl Engine {
         self.rules.mass.as_slice()
     }
 
+    /// The timestep, in units.
+    pub fn timestep(&self) -> i64
+        ensures { result ≡ self.now.rules.dt }
+    {
+        self.rules.dt
+    }
+
     /// The simulation box.
     pub fn cell(&self) -> &SimBox
         ensures { result.now ≡ self.now.rules.cell }

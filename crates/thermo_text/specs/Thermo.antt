@@ -1,9 +1,10 @@
 -- Thermo output. A header names the columns, a line gives their numbers, a footer ends a run.
 --
 -- Cells are parted by one space and set right: whole numbers in 10 places, fixed numbers in 20; a longer one takes what it needs. Each text is one line, with its line feed.
-use Rattle.std.specs.Prelude.{◌-◌, ◌^◌, ◌≤◌, ◌==◌, Bool, true, false, cond, ℕ, ℤ, pos, List, [], ◌∷◌, ◌++◌, length, map, replicate, unwrap_or, codes, unsigned_abs, All, IsSomeAnd}
+use Rattle.std.specs.Prelude.{◌-◌, ◌^◌, ◌≤◌, ◌==◌, Bool, true, false, cond, ℕ, ℤ, pos, Option, List, [], ◌∷◌, ◌++◌, length, map, replicate, unwrap_or, drop, codes, unsigned_abs, All, IsSomeAnd}
 use Rattle.std.specs.Fmt.{decimal, signed_decimal}
-use Rattle.std.specs.List.{join_with_byte}
+use Rattle.std.specs.List.{find, join_with_byte}
+use Rattle.std.specs.Str.{bytes_eq}
 use Rattle.fx_num.specs.declared.numbers.Number.{Number}
 use Rattle.fx_num.specs.Numbers.{value_under}
 use Rattle.fx_num.specs.Print.{fix_text}
@@ -30,6 +31,18 @@ keyword_text Lx = codes "lx"
 keyword_text Ly = codes "ly"
 keyword_text Lz = codes "lz"
 keyword_text (Compute id) = codes "c_" ++ id
+
+-- the columns that are not those of a compute
+abbrev pub plain_columns : List Keyword
+plain_columns = Step ∷ Atoms ∷ Dt ∷ Time ∷ Temp ∷ Press ∷ Pe ∷ Ke ∷ Etotal ∷ Epair ∷ Emol ∷ Ebond ∷ Eangle ∷ Vol ∷ Lx ∷ Ly ∷ Lz ∷ []
+
+-- the column of a keyword, if the word is one
+abbrev pub plain_column : List ℕ → Option Keyword
+plain_column word = find (λ k. bytes_eq (keyword_text k) word) plain_columns
+
+-- the column of a word of `thermo_style`: that of the keyword, and otherwise that of the compute whose id stands behind `c_`
+abbrev pub column_of : List ℕ → Keyword
+column_of word = unwrap_or (plain_column word) (Compute (drop 2 word))
 
 -- the name of a column in the header
 abbrev pub column_name : Keyword → List ℕ

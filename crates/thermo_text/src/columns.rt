@@ -1,6 +1,7 @@
 //! The columns of thermo output, each with its keyword, name and place.
-ghost use Rattle.std.specs.Prelude.{◌≡◌, ◌≤◌, ◌++◌, codes, IfOk};
-ghost use Rattle.thermo_text.specs.Thermo.{keyword_text, column_name, is_whole, width_of, style_one};
+ghost use Rattle.std.specs.Prelude.{◌≡◌, ◌≤◌, ◌++◌, codes, drop, IfOk};
+ghost use Rattle.std.specs.Str.{bytes_eq};
+ghost use Rattle.thermo_text.specs.Thermo.{column_of, plain_column, keyword_text, column_name, is_whole, width_of, style_one};
 
 use fx_num::{NoMemory, Seq, Text};
 use std::alloc::Global;
@@ -56,6 +57,17 @@ const WHOLE_WIDTH: usize = 10;
 const FIXED_WIDTH: usize = 20;
 
 impl Keyword {
+    /// The column of a word of `thermo_style`: that of the keyword, and otherwise that of the compute whose id stands behind
+    /// `c_`.
+    pub fn of(alloc: Global, word: &[u8]) -> Result<Keyword, NoMemory>
+        ensures { IfOk result (λ k. k ≡ column_of word.now) }
+    {
+        match plain_column(word) {
+            Some(column) => Ok(column),
+            None => Ok(Keyword::Compute(Text::from_bytes(alloc, behind_prefix(word))?)),
+        }
+    }
+
     /// The keyword, under which the number of the column stands: `temp`, or `c_ID` of a compute.
     pub fn text(&self, alloc: Global) -> Result<Text, NoMemory>
         ensures { IfOk result (λ t. t ≡ keyword_text self.now) }
@@ -142,6 +154,78 @@ pub fn style_one(alloc: Global) -> Result<Columns, NoMemory>
         Keyword::Press,
     ]?;
     Ok(Seq::from_vec(columns))
+}
+
+/// The column of a keyword, if the word is one.
+fn plain_column(word: &[u8]) -> Option<Keyword>
+    ensures { result ≡ plain_column word.now }
+{
+    if is_same(word, b"step") {
+        return Some(Keyword::Step);
+    }
+    if is_same(word, b"atoms") {
+        return Some(Keyword::Atoms);
+    }
+    if is_same(word, b"dt") {
+        return Some(Keyword::Dt);
+    }
+    if is_same(word, b"time") {
+        return Some(Keyword::Time);
+    }
+    if is_same(word, b"temp") {
+        return Some(Keyword::Temp);
+    }
+    if is_same(word, b"press") {
+        return Some(Keyword::Press);
+    }
+    if is_same(word, b"pe") {
+        return Some(Keyword::Pe);
+    }
+    if is_same(word, b"ke") {
+        return Some(Keyword::Ke);
+    }
+    if is_same(word, b"etotal") {
+        return Some(Keyword::Etotal);
+    }
+    if is_same(word, b"epair") {
+        return Some(Keyword::Epair);
+    }
+    if is_same(word, b"emol") {
+        return Some(Keyword::Emol);
+    }
+    if is_same(word, b"ebond") {
+        return Some(Keyword::Ebond);
+    }
+    if is_same(word, b"eangle") {
+        return Some(Keyword::Eangle);
+    }
+    if is_same(word, b"vol") {
+        return Some(Keyword::Vol);
+    }
+    if is_same(word, b"lx") {
+        return Some(Keyword::Lx);
+    }
+    if is_same(word, b"ly") {
+        return Some(Keyword::Ly);
+    }
+    if is_same(word, b"lz") {
+        return Some(Keyword::Lz);
+    }
+    None
+}
+
+/// Whether a word is a keyword.
+fn is_same(word: &[u8], keyword: &[u8]) -> bool
+    ensures { result ≡ bytes_eq keyword.now word.now }
+{
+    keyword == word
+}
+
+/// What stands behind the two bytes `c_`.
+fn behind_prefix(word: &[u8]) -> &[u8]
+    ensures { result.now ≡ drop 2 word.now }
+{
+    word.get(2..).unwrap_or(&[])
 }
 
 /// The keyword and the name of the column of a compute: `c_` and its id.

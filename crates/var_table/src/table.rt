@@ -144,6 +144,13 @@ impl Vars {
         was_there
     }
 
+    /// Whether there is a variable of this name.
+    pub fn has(&self, name: &[u8]) -> bool
+        ensures { result ≡ is_there self.now name.now }
+    {
+        is_there(&self.items, name)
+    }
+
     /// What the variable of this name holds now, or nothing where the name is not there.
     pub fn source(&self, name: &[u8]) -> Option<Source<'_>>
         ensures { told_any result ≡ held_in self.now name.now }

@@ -3,7 +3,7 @@ use Rattle.fxlmp_top.specs.declared.asked.Asked.{Asked}
 use Rattle.fxlmp_top.specs.Words.{asked}
 use Rattle.program.specs.Request.{request_of}
 use Rattle.session.specs.declared.status.Status.{Status}
-use Rattle.session.specs.declared.status.Status.TheVariants.{DiskFault, Done, NoMemory, NotBuilt, RangeFault, ReadFault, ScriptRefused, Usage, WriteFault}
+use Rattle.session.specs.declared.status.Status.TheVariants.{DiskFault, Budget, Done, NoMemory, NotBuilt, RangeFault, ReadFault, ScriptRefused, Usage, WriteFault}
 use Rattle.session.specs.Ends.{number_of}
 use Rattle.program.proofs.run.run_program.Goals as goal
 
@@ -21,6 +21,7 @@ only_usage WriteFault is no_usage = omega arith
 only_usage DiskFault is no_usage = omega arith
 only_usage NoMemory is no_usage = omega arith
 only_usage (Usage place) is no_usage = no_usage place refl
+only_usage (Budget file line) is no_usage = omega arith
 only_usage (NotBuilt file line) is no_usage = omega arith
 
 not_both : (r : Result Asked ℕ) (a : Asked) (place : ℕ) → r ≡ Ok a → r ≡ Err place → ⊥

@@ -1,6 +1,6 @@
 #!/usr/bin/env bash
-# Runs the program on each run that is stored in tests/runs, and on each case of tests/runs/refusals.txt, in a folder
-# of its own. Prints how many passed, and of each that failed the first difference; the status is then not 0.
+# Runs the program on each run that is stored in tests/runs, and on each case of the tables in tests/runs/*.txt, in a
+# folder of its own. Prints how many passed, and of each that failed the first difference; the status is then not 0.
 #
 #     tests/run.sh PROGRAM
 #
@@ -34,11 +34,11 @@ differs() {
 
 # Each case as a run of its own, whose log is the line of the refusal.
 awk -v to="$work/refusals" '
-  /^== / { run = to "/" $2; system("mkdir -p " run "/files"); file = run "/files/in.case"; printf "" >file
+  /^== / { run = to "/" ++cases "_" $2; system("mkdir -p " run "/files"); file = run "/files/in.case"; printf "" >file
            print "-in\nin.case" >(run "/words"); print "ERROR: " $2 " at " $3 >(run "/want.log"); print 1 >(run "/want.status") }
   /^file / { file = run "/files/" $2 }
   /^\|/ { print substr($0, 3) >file }
-  /^fill / { for (i = 0; i < $2; i++) printf "%s", $3 >file }' "$top/tests/runs/refusals.txt"
+  /^fill / { for (i = 0; i < $2; i++) printf "%s", $3 >file }' "$top"/tests/runs/*.txt
 
 passed=0 failed=0
 for run in "$top"/tests/runs/*/ "$work"/refusals/*/; do

@@ -9,99 +9,103 @@ const NEAR: i64 = UNIT / 4;
 
 const FAR: i64 = LENGTH - NEAR;
 
+/// The greatest bound.
+const BOUND: i64 = 1 << 34;
+/// The least edge.
+const LEAST: i64 = 1 << 18;
+
+const BOXES: &[(V3, V3, Option<BoxRefusal>)] = &[
+    ([0, 0, 0], [LEAST, LEAST, LEAST], None),
+    ([0, 0, 0], [BOUND, BOUND, BOUND], None),
+    ([-BOUND, -BOUND, -BOUND], [0, 0, 0], None),
+    (
+        [0, 0, 0],
+        [LEAST - 1, LEAST, LEAST],
+        Some(BoxRefusal::Edge(Axis::X)),
+    ),
+    (
+        [-1, 0, 0],
+        [BOUND, LEAST, LEAST],
+        Some(BoxRefusal::Edge(Axis::X)),
+    ),
+    (
+        [LEAST, 0, 0],
+        [0, LEAST, LEAST],
+        Some(BoxRefusal::Edge(Axis::X)),
+    ),
+    (
+        [BOUND, 0, 0],
+        [BOUND + 1, 0, 0],
+        Some(BoxRefusal::TooFar(Axis::X)),
+    ),
+    (
+        [0, -BOUND - 1, 0],
+        [LEAST, 0, 0],
+        Some(BoxRefusal::TooFar(Axis::Y)),
+    ),
+    (
+        [0, 0, 0],
+        [1, BOUND + 1, 1],
+        Some(BoxRefusal::Edge(Axis::X)),
+    ),
+    (
+        [0, 0, 0],
+        [LEAST, 1, BOUND + 1],
+        Some(BoxRefusal::Edge(Axis::Y)),
+    ),
+    (
+        [0, 0, 0],
+        [LEAST, LEAST, BOUND + 1],
+        Some(BoxRefusal::TooFar(Axis::Z)),
+    ),
+];
+
 #[test]
 fn refusals_of_boxes(rt: HostRuntime) {
-    let bound = 1 << 34;
-    let least = 1 << 18;
-    for (lo, hi, want) in [
-        ([0, 0, 0], [least, least, least], None),
-        ([0, 0, 0], [bound, bound, bound], None),
-        ([-bound, -bound, -bound], [0, 0, 0], None),
-        (
-            [0, 0, 0],
-            [least - 1, least, least],
-            Some(BoxRefusal::Edge(Axis::X)),
-        ),
-        (
-            [-1, 0, 0],
-            [bound, least, least],
-            Some(BoxRefusal::Edge(Axis::X)),
-        ),
-        (
-            [least, 0, 0],
-            [0, least, least],
-            Some(BoxRefusal::Edge(Axis::X)),
-        ),
-        (
-            [bound, 0, 0],
-            [bound + 1, 0, 0],
-            Some(BoxRefusal::TooFar(Axis::X)),
-        ),
-        (
-            [0, -bound - 1, 0],
-            [least, 0, 0],
-            Some(BoxRefusal::TooFar(Axis::Y)),
-        ),
-        (
-            [0, 0, 0],
-            [1, bound + 1, 1],
-            Some(BoxRefusal::Edge(Axis::X)),
-        ),
-        (
-            [0, 0, 0],
-            [least, 1, bound + 1],
-            Some(BoxRefusal::Edge(Axis::Y)),
-        ),
-        (
-            [0, 0, 0],
-            [least, least, bound + 1],
-            Some(BoxRefusal::TooFar(Axis::Z)),
-        ),
-    ] {
-        assert_eq!(rt;
-            SimBox::new(lo, hi, [true; 3], 3).err(),
-            want,
-            "at {lo:?} {hi:?}"
-        );
+    for (lo, hi, want) in BOXES {
+        let (lo, hi, want) = (*lo, *hi, *want);
+        let told = SimBox::new(lo, hi, [true; 3], 3).err();
+        assert_eq!(rt; told, want, "at {lo:?} {hi:?}");
     }
 }
 
+const IMAGES: &[([bool; 3], u8, V3, V3, V3)] = &[
+    ([true; 3], 3, [NEAR; 3], [FAR; 3], [UNIT / 2; 3]),
+    ([true; 3], 3, [FAR; 3], [NEAR; 3], [-UNIT / 2; 3]),
+    (
+        [true; 3],
+        2,
+        [NEAR; 3],
+        [FAR; 3],
+        [UNIT / 2, UNIT / 2, NEAR - FAR],
+    ),
+    (
+        [false, true, true],
+        3,
+        [NEAR; 3],
+        [FAR; 3],
+        [NEAR - FAR, UNIT / 2, UNIT / 2],
+    ),
+    (
+        [true; 3],
+        3,
+        [LENGTH / 2, 0, UNIT],
+        [0, LENGTH / 2, UNIT],
+        [LENGTH / 2, -LENGTH / 2, 0],
+    ),
+    (
+        [true; 3],
+        3,
+        [LENGTH / 2 + 1, 0, 0],
+        [0, 0, 0],
+        [1 - LENGTH / 2, 0, 0],
+    ),
+];
+
 #[test]
 fn nearest_images(rt: HostRuntime) -> Result<(), BoxRefusal> {
-    let half: V3 = [LENGTH / 2, 0, UNIT];
-    let rows: [([bool; 3], u8, V3, V3, V3); 6] = [
-        ([true; 3], 3, [NEAR; 3], [FAR; 3], [UNIT / 2; 3]),
-        ([true; 3], 3, [FAR; 3], [NEAR; 3], [-UNIT / 2; 3]),
-        (
-            [true; 3],
-            2,
-            [NEAR; 3],
-            [FAR; 3],
-            [UNIT / 2, UNIT / 2, NEAR - FAR],
-        ),
-        (
-            [false, true, true],
-            3,
-            [NEAR; 3],
-            [FAR; 3],
-            [NEAR - FAR, UNIT / 2, UNIT / 2],
-        ),
-        (
-            [true; 3],
-            3,
-            half,
-            [0, LENGTH / 2, UNIT],
-            [LENGTH / 2, -LENGTH / 2, 0],
-        ),
-        (
-            [true; 3],
-            3,
-            [LENGTH / 2 + 1, 0, 0],
-            [0, 0, 0],
-            [1 - LENGTH / 2, 0, 0],
-        ),
-    ];
-    for (periodic, dim, a, b, want) in rows {
+    for (periodic, dim, a, b, want) in IMAGES {
+        let (periodic, dim, a, b, want) = (*periodic, *dim, *a, *b, *want);
         assert!(rt; dim == 2 || dim == 3);
         let cell = SimBox::new([0; 3], [LENGTH; 3], periodic, dim)?;
         assert!(rt; cell.holds(a) && cell.holds(b));
@@ -125,39 +129,41 @@ fn volumes_lengths_and_keys(rt: HostRuntime) -> Result<(), BoxRefusal> {
     Ok(())
 }
 
+const POSITIONS: &[([bool; 3], u8, V3, Result<(V3, [i64; 3]), Lost>)] = &[
+    (
+        [true; 3],
+        3,
+        [FAR + UNIT / 2, -NEAR, LENGTH],
+        Ok(([NEAR, FAR, 0], [1, -1, 1])),
+    ),
+    (
+        [true; 3],
+        3,
+        [0, 25 * UNIT, -LENGTH],
+        Ok(([0, 5 * UNIT, 0], [0, 2, -1])),
+    ),
+    (
+        [false, true, true],
+        3,
+        [FAR, -NEAR - LENGTH, 0],
+        Ok(([FAR, FAR, 0], [0, -2, 0])),
+    ),
+    (
+        [false, true, true],
+        3,
+        [FAR + UNIT / 2, 0, 0],
+        Err(Lost(Axis::X)),
+    ),
+    ([true, false, true], 3, [LENGTH, -1, 0], Err(Lost(Axis::Y))),
+    ([true, false, false], 3, [0, LENGTH, -1], Err(Lost(Axis::Y))),
+    ([false, true, false], 3, [-1, 0, LENGTH], Err(Lost(Axis::X))),
+    ([true; 3], 2, [0, 0, LENGTH], Err(Lost(Axis::Z))),
+];
+
 #[test]
 fn positions_wrap(rt: HostRuntime) -> Result<(), BoxRefusal> {
-    let rows: [([bool; 3], u8, V3, Result<(V3, [i64; 3]), Lost>); 8] = [
-        (
-            [true; 3],
-            3,
-            [FAR + UNIT / 2, -NEAR, LENGTH],
-            Ok(([NEAR, FAR, 0], [1, -1, 1])),
-        ),
-        (
-            [true; 3],
-            3,
-            [0, 25 * UNIT, -LENGTH],
-            Ok(([0, 5 * UNIT, 0], [0, 2, -1])),
-        ),
-        (
-            [false, true, true],
-            3,
-            [FAR, -NEAR - LENGTH, 0],
-            Ok(([FAR, FAR, 0], [0, -2, 0])),
-        ),
-        (
-            [false, true, true],
-            3,
-            [FAR + UNIT / 2, 0, 0],
-            Err(Lost(Axis::X)),
-        ),
-        ([true, false, true], 3, [LENGTH, -1, 0], Err(Lost(Axis::Y))),
-        ([true, false, false], 3, [0, LENGTH, -1], Err(Lost(Axis::Y))),
-        ([false, true, false], 3, [-1, 0, LENGTH], Err(Lost(Axis::X))),
-        ([true; 3], 2, [0, 0, LENGTH], Err(Lost(Axis::Z))),
-    ];
-    for (periodic, dim, x, want) in rows {
+    for (periodic, dim, x, want) in POSITIONS {
+        let (periodic, dim, x, want) = (*periodic, *dim, *x, *want);
         assert!(rt; dim == 2 || dim == 3);
         let cell = SimBox::new([0; 3], [LENGTH; 3], periodic, dim)?;
         let (a, b, c) = (

@@ -55,39 +55,48 @@ fn sites_of(alloc: Global, from: &[(V3, u32)]) -> Result<Sites, NoMemory>
     Ok(sites)
 }
 
+/// Positions with ids, the reach, and whether the second site is in the row of the first.
+type InRow = ((V3, u32), (V3, u32), i64, bool);
+
+const IN_ROW: &[InRow] = &[
+    (([0, 0, 0], 1), ([5, 0, 0], 2), 6, true),
+    (([0, 0, 0], 1), ([5, 0, 0], 2), 5, false),
+    (([0, 0, 0], 2), ([5, 0, 0], 1), 6, false),
+    (([0, 0, 0], 2), ([5, 0, 0], 2), 6, false),
+    (([0, 0, 0], 1), ([3, 4, 0], 2), 5, false),
+    (([0, 0, 0], 1), ([3, 4, 0], 2), 6, true),
+    (([0, 0, 0], 1), ([2, 3, 6], 2), 7, false),
+    (([0, 0, 0], 1), ([2, 3, 6], 2), 8, true),
+    (([0, 0, 0], 1), ([4, 4, 4], 2), 5, false),
+    (([7, 7, 7], 1), ([7, 7, 7], 2), 1, true),
+    (([-1, -1, -1], 1), ([0, 0, 0], 2), 2, true),
+    (([-1, -1, -1], 1), ([1, 0, 0], 2), 2, false),
+    (([-FAR, -FAR, -FAR], 1), ([1 - FAR, -FAR, -FAR], 2), 2, true),
+    (([FAR, FAR, FAR], 1), ([FAR, FAR - 1, FAR], 2), 2, true),
+    (
+        ([-FAR, -FAR, -FAR], 1),
+        ([FAR, FAR, FAR], 2),
+        1 << 29,
+        false,
+    ),
+    (([-FAR, 0, 0], 1), ([FAR, 0, 0], 2), 1, false),
+    (
+        ([FAR, 0, 0], 1),
+        ([FAR + 1 - (1 << 29), 0, 0], 2),
+        1 << 29,
+        true,
+    ),
+];
+
 #[test]
 fn rows_by_hand(rt: HostRuntime) -> Result<(), NoMemory> {
-    // positions with ids, the reach, and how often the second site is in the row of the first
-    let rows: [((V3, u32), (V3, u32), i64, usize); 17] = [
-        (([0, 0, 0], 1), ([5, 0, 0], 2), 6, 1),
-        (([0, 0, 0], 1), ([5, 0, 0], 2), 5, 0),
-        (([0, 0, 0], 2), ([5, 0, 0], 1), 6, 0),
-        (([0, 0, 0], 2), ([5, 0, 0], 2), 6, 0),
-        (([0, 0, 0], 1), ([3, 4, 0], 2), 5, 0),
-        (([0, 0, 0], 1), ([3, 4, 0], 2), 6, 1),
-        (([0, 0, 0], 1), ([2, 3, 6], 2), 7, 0),
-        (([0, 0, 0], 1), ([2, 3, 6], 2), 8, 1),
-        (([0, 0, 0], 1), ([4, 4, 4], 2), 5, 0),
-        (([7, 7, 7], 1), ([7, 7, 7], 2), 1, 1),
-        (([-1, -1, -1], 1), ([0, 0, 0], 2), 2, 1),
-        (([-1, -1, -1], 1), ([1, 0, 0], 2), 2, 0),
-        (([-FAR, -FAR, -FAR], 1), ([1 - FAR, -FAR, -FAR], 2), 2, 1),
-        (([FAR, FAR, FAR], 1), ([FAR, FAR - 1, FAR], 2), 2, 1),
-        (([-FAR, -FAR, -FAR], 1), ([FAR, FAR, FAR], 2), 1 << 29, 0),
-        (([-FAR, 0, 0], 1), ([FAR, 0, 0], 2), 1, 0),
-        (
-            ([FAR, 0, 0], 1),
-            ([FAR + 1 - (1 << 29), 0, 0], 2),
-            1 << 29,
-            1,
-        ),
-    ];
-    for (first, second, reach, want) in rows {
+    for (first, second, reach, is_in) in IN_ROW {
+        let (first, second, reach) = (*first, *second, *reach);
         assert!(rt; 1 <= reach && reach <= 1 << 29);
         let own = sites_of(rt.alloc(), &[first])?;
         let all = sites_of(rt.alloc(), &[first, second])?;
         let list = List::build(rt.alloc(), &own, &all, reach)?;
-        let row: &[u32] = if want == 0 { &[] } else { &[FIRST_PLACE + 1] };
+        let row: &[u32] = if *is_in { &[FIRST_PLACE + 1] } else { &[] };
         assert_eq!(rt;
             list.row(0),
             row,
@@ -119,19 +128,22 @@ fn lists_of_one_site_and_of_none(rt: HostRuntime) -> Result<(), NoMemory> {
     Ok(())
 }
 
+const MOVES: &[(i128, i64, bool)] = &[
+    (0, 0, false),
+    (1, 0, true),
+    (25, 10, false),
+    (26, 10, true),
+    (1 << 46, 1 << 24, false),
+    ((1 << 46) + 1, 1 << 24, true),
+    (1 << 50, 1 << 26, false),
+    ((1 << 50) + 1, 1 << 26, true),
+    (1 << 100, 1 << 26, true),
+];
+
 #[test]
 fn stale_beyond_half_the_skin(rt: HostRuntime) {
-    for (moved2, skin, want) in [
-        (0i128, 0, false),
-        (1, 0, true),
-        (25, 10, false),
-        (26, 10, true),
-        (1 << 46, 1 << 24, false),
-        ((1 << 46) + 1, 1 << 24, true),
-        (1 << 50, 1 << 26, false),
-        ((1 << 50) + 1, 1 << 26, true),
-        (1 << 100, 1 << 26, true),
-    ] {
+    for (moved2, skin, want) in MOVES {
+        let (moved2, skin, want) = (*moved2, *skin, *want);
         assert!(rt; 0 <= moved2 && moved2 <= 1 << 100 && 0 <= skin && skin <= 1 << 26);
         assert_eq!(rt; stale(moved2, skin), want, "{moved2} {skin}");
     }

@@ -36,8 +36,66 @@ fn two_types(rt: HostRuntime) -> Result<(), Fail> {
     Ok(())
 }
 
-/// Along x: the types, the displacement, the weight, and what the term must be: the force along x,
-/// the energy and the virial.
+/// Along x: the types, the displacement, the weight, and what the term must be: the force along x, the energy and the
+/// virial.
+type AlongX = (u8, u8, i64, i64, Result<Option<(i64, i64, i128)>, Close>);
+
+const ALONG_X: &[AlongX] = &[
+    // distance 2, energy -4·(1/64 - 1/4096)
+    (
+        1,
+        1,
+        -2 * ONE,
+        ONE,
+        Ok(Some((3_047_424, -1_032_192, -102_254_581_383_168))),
+    ),
+    (
+        1,
+        1,
+        2 * ONE,
+        ONE,
+        Ok(Some((-3_047_424, -1_032_192, -102_254_581_383_168))),
+    ),
+    // the same with half the weight
+    (
+        1,
+        1,
+        -2 * ONE,
+        ONE / 2,
+        Ok(Some((1_523_712, -516_096, -51_127_290_691_584))),
+    ),
+    // distance 1: the energy is 0, the force 24 and 48
+    (
+        1,
+        1,
+        -ONE,
+        ONE,
+        Ok(Some((-402_653_184, 0, 6_755_399_441_055_744))),
+    ),
+    (
+        1,
+        2,
+        -ONE,
+        ONE,
+        Ok(Some((-805_306_368, 0, 13_510_798_882_111_488))),
+    ),
+    (
+        2,
+        1,
+        -ONE,
+        ONE,
+        Ok(Some((-805_306_368, 0, 13_510_798_882_111_488))),
+    ),
+    // no well
+    (2, 2, 4 * ONE, ONE, Ok(Some((0, 0, 0)))),
+    // at the cutoff, at distance 0.2 and at one place, whatever the weight
+    (1, 2, CUT, ONE, Ok(None)),
+    (1, 1, 3_355_443, ONE, Err(Close)),
+    (1, 1, 3_355_443, 1, Err(Close)),
+    (2, 2, 0, ONE, Err(Close)),
+];
+
+/// The table has the terms along x.
 fn has_terms<L: Ledger>(rt: &impl Abort, table: &PairTable, blank: Blank)
     requires name { blank.name ≡ L.name }
     requires parts { blank.parts ≡ L.parts }
@@ -46,61 +104,8 @@ fn has_terms<L: Ledger>(rt: &impl Abort, table: &PairTable, blank: Blank)
     requires two { table.now.kinds ≡ 2 }
 {
     let mut steps = Steps::<L>::new(blank);
-    let rows = [
-        // distance 2, energy -4·(1/64 - 1/4096)
-        (
-            1,
-            1,
-            -2 * ONE,
-            ONE,
-            Ok(Some((3_047_424, -1_032_192, -102_254_581_383_168))),
-        ),
-        (
-            1,
-            1,
-            2 * ONE,
-            ONE,
-            Ok(Some((-3_047_424, -1_032_192, -102_254_581_383_168))),
-        ),
-        // the same with half the weight
-        (
-            1,
-            1,
-            -2 * ONE,
-            ONE / 2,
-            Ok(Some((1_523_712, -516_096, -51_127_290_691_584))),
-        ),
-        // distance 1: the energy is 0, the force 24 and 48
-        (
-            1,
-            1,
-            -ONE,
-            ONE,
-            Ok(Some((-402_653_184, 0, 6_755_399_441_055_744))),
-        ),
-        (
-            1,
-            2,
-            -ONE,
-            ONE,
-            Ok(Some((-805_306_368, 0, 13_510_798_882_111_488))),
-        ),
-        (
-            2,
-            1,
-            -ONE,
-            ONE,
-            Ok(Some((-805_306_368, 0, 13_510_798_882_111_488))),
-        ),
-        // no well
-        (2, 2, 4 * ONE, ONE, Ok(Some((0, 0, 0)))),
-        // at the cutoff, at distance 0.2 and at one place, whatever the weight
-        (1, 2, CUT, ONE, Ok(None)),
-        (1, 1, 3_355_443, ONE, Err(Close)),
-        (1, 1, 3_355_443, 1, Err(Close)),
-        (2, 2, 0, ONE, Err(Close)),
-    ];
-    for (i, j, x, weight, want) in rows {
+    for (i, j, x, weight, want) in ALONG_X {
+        let (i, j, x, weight, want) = (*i, *j, *x, *weight, *want);
         assert!(rt; i >= 1 && i <= 2 && j >= 1 && j <= 2);
         assert!(rt; x > -(1 << 34) && x < 1 << 34);
         assert!(rt; weight > 0 && weight <= ONE);
@@ -116,130 +121,135 @@ type Wanted = Result<Option<(V3, i64, i128)>, Close>;
 /// Epsilon, sigma and cutoff, the displacement, the weight, and the term.
 type Row = (i64, i64, i64, V3, i64, Wanted);
 
+/// A size whose square over 2 is a tie, in units of 2^-32.
+const TIE: i64 = 65_537 << 8;
+/// A quarter.
+const SHORT: i64 = ONE / 4;
+
+const HARD: &[Row] = &[
+    // sigma² / r² is a tie: 65537² / 2 in units of 2^-32. Of the weights the least leaves a unit of the force.
+    (
+        ONE,
+        TIE,
+        CUT,
+        [ONE, ONE, 0],
+        ONE,
+        Ok(Some((
+            [-18_875_520, -18_875_520, 0],
+            -7_340_608,
+            -633_357_352_304_640,
+        ))),
+    ),
+    (
+        ONE,
+        TIE,
+        CUT,
+        [ONE, -ONE, 0],
+        ONE / 2,
+        Ok(Some(([-9_437_760, 9_437_760, 0], -3_670_304, -316_678_676_152_320))),
+    ),
+    (
+        ONE,
+        TIE,
+        CUT,
+        [ONE, -ONE, 0],
+        1,
+        Ok(Some(([-1, 1, 0], 0, -33_554_432))),
+    ),
+    // no quotient is whole
+    (
+        ONE,
+        ONE,
+        CUT,
+        [11_863_283, -9_490_627, 7_118_000],
+        ONE,
+        Ok(Some((
+            [284_714_425, -227_771_555, 170_829_380],
+            -309,
+            6_755_306_194_512_260,
+        ))),
+    ),
+    // r² at its least: 1, with sigma 1, 4 and 5 units. The strength is 24·2^56.
+    (
+        1,
+        1,
+        ONE,
+        [1, 0, 0],
+        ONE,
+        Ok(Some(([402_653_184, 0, 0], 0, 402_653_184))),
+    ),
+    (0, 4, ONE, [0, 0, -1], ONE, Ok(Some(([0, 0, 0], 0, 0)))),
+    (0, 5, ONE, [0, 1, 0], ONE, Err(Close)),
+    (0, 1, 1, [0, 0, 0], ONE, Err(Close)),
+    (0, 1, 1, [0, 1, 0], ONE, Ok(None)),
+    // r² at its greatest: a unit below the greatest cutoff, and at it
+    (
+        MAX_EPSILON,
+        MAX_SIGMA,
+        MAX_CUTOFF,
+        [MAX_CUTOFF - 1, 0, 0],
+        ONE,
+        Ok(Some(([-97_517_571, 0, 0], -264_241_160, -26_177_173_541_879_805))),
+    ),
+    (
+        MAX_EPSILON,
+        MAX_SIGMA,
+        MAX_CUTOFF,
+        [0, -MAX_CUTOFF, 0],
+        ONE,
+        Ok(None),
+    ),
+    (
+        MAX_EPSILON,
+        MAX_SIGMA,
+        MAX_CUTOFF,
+        [1 << 32, 1 << 33, 1],
+        ONE,
+        Ok(None),
+    ),
+    // sigma² / r² at its greatest, 16: the strength is 24·8191·2^24
+    (
+        1,
+        ONE,
+        CUT,
+        [SHORT, 0, 0],
+        ONE,
+        Ok(Some(([3_220_832_256, 0, 0], 67_092_480, 13_509_149_614_669_824))),
+    ),
+    (1, ONE, CUT, [SHORT - 1, 0, 0], ONE, Err(Close)),
+    // a force at its greatest, a unit nearer, and two components that are below it alone
+    (
+        ONE,
+        ONE,
+        CUT,
+        [-8_648_098, 0, 0],
+        ONE,
+        Ok(Some((
+            [-4_398_041_388_925, 0, 0],
+            187_131_629_933,
+            38_034_692_939_479_514_650,
+        ))),
+    ),
+    (ONE, ONE, CUT, [-8_648_097, 0, 0], ONE, Err(Close)),
+    (ONE, ONE, CUT, [-8_648_097, 0, 0], 1, Err(Close)),
+    (
+        ONE,
+        ONE,
+        CUT,
+        [-6_116_128, -6_116_128, 0],
+        ONE,
+        Ok(Some((
+            [-3_103_257_287_504, -3_103_257_287_504, 0],
+            186_761_572_069,
+            37_959_837_574_614_529_024,
+        ))),
+    ),
+];
+
 #[test]
 fn hard_pairs(rt: HostRuntime) -> Result<(), Fail> {
-    let (tie, short) = (65_537 << 8, ONE / 4);
-    let rows: [Row; 18] = [
-        // sigma² / r² is a tie: 65537² / 2 in units of 2^-32. Of the weights the least leaves a unit of the force.
-        (
-            ONE,
-            tie,
-            CUT,
-            [ONE, ONE, 0],
-            ONE,
-            Ok(Some((
-                [-18_875_520, -18_875_520, 0],
-                -7_340_608,
-                -633_357_352_304_640,
-            ))),
-        ),
-        (
-            ONE,
-            tie,
-            CUT,
-            [ONE, -ONE, 0],
-            ONE / 2,
-            Ok(Some(([-9_437_760, 9_437_760, 0], -3_670_304, -316_678_676_152_320))),
-        ),
-        (
-            ONE,
-            tie,
-            CUT,
-            [ONE, -ONE, 0],
-            1,
-            Ok(Some(([-1, 1, 0], 0, -33_554_432))),
-        ),
-        // no quotient is whole
-        (
-            ONE,
-            ONE,
-            CUT,
-            [11_863_283, -9_490_627, 7_118_000],
-            ONE,
-            Ok(Some((
-                [284_714_425, -227_771_555, 170_829_380],
-                -309,
-                6_755_306_194_512_260,
-            ))),
-        ),
-        // r² at its least: 1, with sigma 1, 4 and 5 units. The strength is 24·2^56.
-        (
-            1,
-            1,
-            ONE,
-            [1, 0, 0],
-            ONE,
-            Ok(Some(([402_653_184, 0, 0], 0, 402_653_184))),
-        ),
-        (0, 4, ONE, [0, 0, -1], ONE, Ok(Some(([0, 0, 0], 0, 0)))),
-        (0, 5, ONE, [0, 1, 0], ONE, Err(Close)),
-        (0, 1, 1, [0, 0, 0], ONE, Err(Close)),
-        (0, 1, 1, [0, 1, 0], ONE, Ok(None)),
-        // r² at its greatest: a unit below the greatest cutoff, and at it
-        (
-            MAX_EPSILON,
-            MAX_SIGMA,
-            MAX_CUTOFF,
-            [MAX_CUTOFF - 1, 0, 0],
-            ONE,
-            Ok(Some(([-97_517_571, 0, 0], -264_241_160, -26_177_173_541_879_805))),
-        ),
-        (
-            MAX_EPSILON,
-            MAX_SIGMA,
-            MAX_CUTOFF,
-            [0, -MAX_CUTOFF, 0],
-            ONE,
-            Ok(None),
-        ),
-        (
-            MAX_EPSILON,
-            MAX_SIGMA,
-            MAX_CUTOFF,
-            [1 << 32, 1 << 33, 1],
-            ONE,
-            Ok(None),
-        ),
-        // sigma² / r² at its greatest, 16: the strength is 24·8191·2^24
-        (
-            1,
-            ONE,
-            CUT,
-            [short, 0, 0],
-            ONE,
-            Ok(Some(([3_220_832_256, 0, 0], 67_092_480, 13_509_149_614_669_824))),
-        ),
-        (1, ONE, CUT, [short - 1, 0, 0], ONE, Err(Close)),
-        // a force at its greatest, a unit nearer, and two components that are below it alone
-        (
-            ONE,
-            ONE,
-            CUT,
-            [-8_648_098, 0, 0],
-            ONE,
-            Ok(Some((
-                [-4_398_041_388_925, 0, 0],
-                187_131_629_933,
-                38_034_692_939_479_514_650,
-            ))),
-        ),
-        (ONE, ONE, CUT, [-8_648_097, 0, 0], ONE, Err(Close)),
-        (ONE, ONE, CUT, [-8_648_097, 0, 0], 1, Err(Close)),
-        (
-            ONE,
-            ONE,
-            CUT,
-            [-6_116_128, -6_116_128, 0],
-            ONE,
-            Ok(Some((
-                [-3_103_257_287_504, -3_103_257_287_504, 0],
-                186_761_572_069,
-                37_959_837_574_614_529_024,
-            ))),
-        ),
-    ];
-    for row in rows {
-        has_row(&rt, rt.alloc(), row)?;
+    for row in HARD {
+        has_row(&rt, rt.alloc(), *row)?;
     }
     Ok(())
 }

@@ -85,36 +85,37 @@ fn phase<T: Threads + Sync, G: Gate>(
     counted::<T, G, Brand>(rt, alloc, pieces, workers, gate, Blank::new(1))
 }
 
+// How many pieces there are, the sum of 1 up to it, and the least key.
+const PLANS: &[(u32, i64, u64)] = &[
+    (0, 0, NO_KEY),
+    (1, 1, 1000),
+    (2, 3, 999),
+    (3, 6, 998),
+    (64, 2080, 937),
+    (512, 131_328, 489),
+];
+
+// What a phase must leave. Each worker misses once.
+fn end_of(pieces: u32, workers: u32, sum: i64, least: u64) -> Outcome {
+    let claims = (pieces as u64).wrapping_add(workers as u64);
+    let tally = Tally {
+        pair: sum as i128,
+        bond: pieces as i128,
+        angle: 0,
+        virial: 0i128.wrapping_sub(sum as i128),
+    };
+    (sum, 0i64.wrapping_sub(sum), claims, least, tally)
+}
+
 #[test]
 fn any_number_of_workers_ends_alike(rt: HostRuntime) -> Result<(), Fail> {
-    // how many pieces there are, the sum of 1 up to it, and the least key
-    let plans: [(u32, i64, u64); 6] = [
-        (0, 0, NO_KEY),
-        (1, 1, 1000),
-        (2, 3, 999),
-        (3, 6, 998),
-        (64, 2080, 937),
-        (512, 131_328, 489),
-    ];
-    for (pieces, sum, least) in plans {
+    for (pieces, sum, least) in PLANS {
+        let (pieces, sum, least) = (*pieces, *sum, *least);
         for workers in [1, 2, 4, 64u32] {
             assert!(rt; pieces <= 512 && 0 < workers && workers <= 64);
-            let (first, second, claims, key, tally) = phase(
-                &rt,
-                rt.alloc(),
-                pieces,
-                workers,
-                &OpenGate,
-            )?;
-            assert_eq!(rt; first, sum);
-            assert_eq!(rt; second, 0i64.wrapping_sub(sum));
-            assert_eq!(rt; key, least);
-            // each worker misses once
-            assert_eq!(rt; claims, (pieces as u64).wrapping_add(workers as u64));
-            assert_eq!(rt; tally.pair, sum as i128);
-            assert_eq!(rt; tally.bond, pieces as i128);
-            assert_eq!(rt; tally.angle, 0);
-            assert_eq!(rt; tally.virial, 0i128.wrapping_sub(sum as i128));
+            let end = phase(&rt, rt.alloc(), pieces, workers, &OpenGate)?;
+            let want = end_of(pieces, workers, sum, least);
+            assert_eq!(rt; end, want, "{pieces} pieces, {workers} workers");
         }
     }
     Ok(())

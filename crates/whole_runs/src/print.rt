@@ -41,6 +41,10 @@ fn print_status(rt: &impl Print, status: &Status) -> io::Result<()> {
             let file = shown(file);
             println!(rt; "not built at {file}:{line}")
         }
+        Status::Budget { file, line } => {
+            let file = shown(file);
+            println!(rt; "too many lines at {file}:{line}")
+        }
         Status::RangeFault { key, step } => {
             let (phase, kind, a, b) = (key.phase, key.kind, key.a, key.b);
             println!(rt; "fault {phase} {kind} {a} {b} at step {step}")

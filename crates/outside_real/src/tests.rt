@@ -1,5 +1,5 @@
-//! What no contract can say: what a real file gives and takes, and what a device that fails in the middle
-//! leaves.
+//! What no contract can say: what a device leaves that fails in the middle, and names that no file has. Real files are
+//! read and written by the stored runs of the program.
 use super::press::put_on_screen;
 use super::reading::read_whole;
 use super::writing::put_into;
@@ -8,91 +8,19 @@ use fx_num::Text;
 use outside::{FetchRefusal, Press, PutRefusal, Shelf};
 use std::cell::RefCell;
 use std::fmt::Display;
+use std::io;
 use std::io::{ErrorKind, Read, Write};
-use std::process::Abort;
-use std::rt::{Env, Files};
 use std::test::Fail;
-use std::{env, fs, io, process};
-
-/// Makes an empty folder of this test run.
-fn make_folder(rt: &(impl Files + Env + AllocGlobal), of: &str, run: u32) -> io::Result<String> {
-    let place = env::temp_dir(rt)?;
-    let folder = format!(in rt.alloc(); "{}/outside_real-{of}-{run}", place.display())?;
-    fs::create_dir(rt, folder.as_str())?;
-    Ok(folder)
-}
-
-/// Asserts that a fetch of the file gives these bytes, or this refusal.
-fn check_fetch<R: Abort + Files + AllocGlobal>(
-    rt: &R,
-    shelf: &mut FileShelf<&R>,
-    path: &[u8],
-    want: Result<&[u8], FetchRefusal>,
-) -> Result<(), Fail> {
-    let name = Text::from_bytes(rt.alloc(), path)?;
-    match (shelf.fetch(rt.alloc(), &name), want) {
-        (Ok(bytes), Ok(expected)) => assert_eq!(rt; bytes.as_bytes(), expected),
-        (Err(refusal), Err(expected)) => assert_eq!(rt; refusal, expected),
-        _ => panic!(rt; "one was fetched and the other was not"),
-    }
-    Ok(())
-}
 
 #[test]
-fn a_shelf_reads_a_file_and_misses_another(rt: HostRuntime) -> Result<(), Fail> {
-    let folder = make_folder(&rt, "shelf", process::id(rt.process()))?;
-    let there = format!(in rt.alloc(); "{folder}/in.melt")?;
-    let long = format!(in rt.alloc(); "{folder}/data.long")?;
-    let missing = format!(in rt.alloc(); "{folder}/in.lj")?;
-    fs::write(&rt, there.as_str(), "run 10\n")?;
-    let many = [b'x'; 10_000];
-    fs::write(&rt, long.as_str(), many.as_slice())?;
-
+fn no_file_has_a_name_that_is_no_text(rt: HostRuntime) -> Result<(), Fail> {
+    let name = Text::from_bytes(rt.alloc(), b"\xff")?;
     let mut shelf = FileShelf::new(&rt);
-    check_fetch(&rt, &mut shelf, there.as_bytes(), Ok(b"run 10\n"))?;
-    check_fetch(&rt, &mut shelf, long.as_bytes(), Ok(&many))?;
-    check_fetch(
-        &rt,
-        &mut shelf,
-        missing.as_bytes(),
-        Err(FetchRefusal::Missing),
-    )?;
-    check_fetch(&rt, &mut shelf, b"\xff", Err(FetchRefusal::Missing))?;
-    check_fetch(
-        &rt,
-        &mut shelf,
-        folder.as_bytes(),
-        Err(FetchRefusal::Faulted),
-    )?;
-
-    fs::remove_dir_all(&rt, folder.as_str())?;
-    Ok(())
-}
-
-#[test]
-fn a_press_starts_a_file_anew_or_appends(rt: HostRuntime) -> Result<(), Fail> {
-    let folder = make_folder(&rt, "press", process::id(rt.process()))?;
-    let path = format!(in rt.alloc(); "{folder}/log.lammps")?;
-    let name = Text::from_bytes(rt.alloc(), path.as_bytes())?;
-    let screen = Text::from_bytes(rt.alloc(), outside::SCREEN)?;
-    let no_text = Text::from_bytes(rt.alloc(), b"\xff")?;
-
+    let fetched = shelf.fetch(rt.alloc(), &name).err();
+    assert_eq!(rt; fetched, Some(FetchRefusal::Missing));
     let mut press = FilePress::new(&rt);
-    for (fresh, piece, want) in [
-        (true, "Step", "Step"),
-        (false, " Temp", "Step Temp"),
-        (true, "Loop", "Loop"),
-    ] {
-        press.put(rt.alloc(), &name, fresh, piece.as_bytes())?;
-        press.put(rt.alloc(), &screen, fresh, piece.as_bytes())?;
-        assert_eq!(rt; fs::read_to_string(&rt, path.as_str())?.as_str(), want);
-    }
-    assert_eq!(rt;
-        press.put(rt.alloc(), &no_text, true, b"Step"),
-        Err(PutRefusal::Faulted)
-    );
-
-    fs::remove_dir_all(&rt, folder.as_str())?;
+    let put = press.put(rt.alloc(), &name, true, b"Step");
+    assert_eq!(rt; put, Err(PutRefusal::Faulted));
     Ok(())
 }
 
@@ -105,27 +33,6 @@ fn long_piece() -> [u8; 10_000] {
         next = if next < b'w' { next + 1 } else { b'a' };
     }
     bytes
-}
-
-#[test]
-fn a_long_piece_is_written_and_read_whole(rt: HostRuntime) -> Result<(), Fail> {
-    let folder = make_folder(&rt, "long", process::id(rt.process()))?;
-    let path = format!(in rt.alloc(); "{folder}/dump.lj")?;
-    let name = Text::from_bytes(rt.alloc(), path.as_bytes())?;
-    let piece = long_piece();
-    let mut both = Vec::new(rt.alloc());
-    both.extend_from_slice(&piece)?;
-    both.extend_from_slice(&piece)?;
-
-    let mut press = FilePress::new(&rt);
-    let mut shelf = FileShelf::new(&rt);
-    press.put(rt.alloc(), &name, true, &piece)?;
-    check_fetch(&rt, &mut shelf, path.as_bytes(), Ok(&piece))?;
-    press.put(rt.alloc(), &name, false, &piece)?;
-    check_fetch(&rt, &mut shelf, path.as_bytes(), Ok(&both))?;
-
-    fs::remove_dir_all(&rt, folder.as_str())?;
-    Ok(())
 }
 
 /// A standard output that keeps what is written to it.
